@@ -1,0 +1,4 @@
+pub mod Cases
+pub mod Pairs
+pub mod Bounds
+pub mod Texts

@@ -1,0 +1,151 @@
+-- Document 01's small examples of what is written: texts, the book's bytes, numbers; and the `datelist` example whole.
+-- Assumes nothing.
+use Prim.Native.Nat.{ℕ}
+use mathlib.Core.Path.{_≡_, refl}
+use mathlib.Core.List.{List, [], _∷_, _++_}
+use lib.IntN.{ℤ, pos, negsuc}
+use lib.ListN.{replicate}
+use Rattle.rules.specs.Words.{bytes, bigEndian, bigBytes}
+use Rattle.rules.specs.Refusals.{Answer, Gives, Refused, RefusedAt}
+use Rattle.rules.specs.Calendar.{lengths, monthLength, sumFirst, firstDay, dayOfYear, walk, monthDay}
+use Rattle.rules.specs.Kinds.{kR, kD, kH, kU, kE, kV, Fields, inGameHour, ofKind, made, settled, packed, unpacked, handedIn}
+use Rattle.rules.specs.Numbers.{numberFields, decoded, readNumber, guessNumber, straight, writeNumber}
+use Rattle.rules.specs.Days.{dayNumber, difference}
+use Rattle.rules.specs.Text.{digits, afterDigits, decimalValue, leading, secondDigit, oneOrTwo, afterDot, hourAfter, dottedPart, numberText, shapeAllowed, textFields, readText}
+use Rattle.rules.specs.Spelling.{decimalIn, decimal, filled, dottedHour, dotted, isoMonthDay, isoHour, isoDate, iso, exchange, isoDateAlone, putAnswer, putBuffer}
+use Rattle.rules.specs.Book.{lengthSaid, pieces, recordsIn, firstBad, allSound, records, check, appendAnswer, appended, appendBuffer, newAnswer, newBuffer, kindOfCode, yearOfTwos, entryBytes, entryOf, today, entryFor}
+use Rattle.rules.specs.Listing.{kindOfLetter, wayOfLetter, readLine, allDigits, lineNumber, dateBy, dateText, requestText, lineOutput, lineEnd, onto, lines, joined, listing}
+use Rattle.rules.proofs.Cases.{Case, _is_, answers, literals, on}
+
+-- ---- texts
+
+abbrev pub spellings : List (Case (List ℕ))
+spellings =
+    (iso kD (on (negsuc 4) 1 1 0) is bytes "-005-01-01")
+    ∷ (exchange kD (on (negsuc 4) 1 1 0) is bytes "-0005-01-01")
+    ∷ (iso kD (on (pos 5) 1 1 0) is bytes "0005-01-01")
+    ∷ (exchange kD (on (pos 5) 1 1 0) is bytes "0005-01-01")
+    ∷ (iso kD (on (negsuc 32767) 12 31 0) is bytes "-32768-12-31")
+    ∷ (exchange kR (on (pos 10000) 12 31 24) is bytes "10000-12-31T23")
+    ∷ (dotted kR (on (negsuc 32767) 12 31 24) is bytes "-32768.12.31.24")
+    ∷ (dotted kD (on (pos 0) 1 1 0) is bytes "0.1.1")
+    ∷ (dotted kU (on (pos 1444) 2 3 0) is bytes "1444.02.03")
+    ∷ (iso kR (on (pos 1444) 1 1 0) is bytes "1444-01-01")
+    ∷ (iso kR (on (pos 1444) 1 1 1) is bytes "1444-01-01T00")
+    ∷ (iso kH (on (pos 1444) 1 1 24) is bytes "1444-01-01T23")
+    ∷ (iso kV (on (pos 1444) 1 1 18) is bytes "1444-01-01T18")
+    ∷ (iso kE (on (pos 1444) 1 1 0) is bytes "1444-01-01T08")
+    ∷ (iso kE (on (pos 1444) 1 1 22) is bytes "1444-01-01T19")
+    ∷ (isoDate (on (pos 1444) 1 1 22) is bytes "1444-01-01")
+    ∷ []
+
+pub spellings-hold : answers spellings ≡ literals spellings
+unfolding decimalIn decimal filled dottedHour dotted isoMonthDay isoHour isoDate iso exchange
+spellings-hold = refl
+
+-- a text of 5 bytes in buffers of 7, 5 and 4
+abbrev five : Answer (List ℕ)
+five = Gives (bytes "0.1.1")
+
+abbrev pub buffers : List (Case (List ℕ))
+buffers =
+    (putBuffer five (bytes "abcdefg") is bytes "0.1.1fg")
+    ∷ (putBuffer five (bytes "abcde") is bytes "0.1.1")
+    ∷ (putBuffer five (bytes "abcd") is bytes "abcd")
+    ∷ (putBuffer (isoDateAlone kD (on (pos 0) 1 1 0)) (bytes "abcdefghijk") is bytes "abcdefghijk")
+    ∷ []
+
+pub buffers-hold : answers buffers ≡ literals buffers
+unfolding putBuffer isoDateAlone
+buffers-hold = refl
+
+-- ---- the book: D 1444.11.11 alone, in a buffer of 12 bytes
+
+abbrev one : List ℕ
+one = appendBuffer today (entryFor 2 (pos 1444) 46464) (newBuffer today (replicate 12 7))
+
+abbrev pub books : List (Case (List ℕ))
+books =
+    (newBuffer today (replicate 12 7) is (0 ∷ 0 ∷ 0 ∷ 1 ∷ 1 ∷ 7 ∷ 7 ∷ 7 ∷ 7 ∷ 7 ∷ 7 ∷ 7 ∷ []))
+    ∷ (one is (0 ∷ 0 ∷ 0 ∷ 6 ∷ 1 ∷ 2 ∷ 5 ∷ 164 ∷ 181 ∷ 128 ∷ 7 ∷ 7 ∷ []))
+    ∷ (appendBuffer today (entryFor 2 (pos 1444) 46464) one is (0 ∷ 0 ∷ 0 ∷ 6 ∷ 1 ∷ 2 ∷ 5 ∷ 164 ∷ 181 ∷ 128 ∷ 7 ∷ 7 ∷ []))
+    ∷ (newBuffer today (replicate 4 7) is (7 ∷ 7 ∷ 7 ∷ 7 ∷ []))
+    ∷ []
+
+pub books-hold : answers books ≡ literals books
+unfolding bigEndian bigBytes lengths monthLength ofKind made packed unpacked handedIn lengthSaid pieces recordsIn firstBad allSound records
+    appendAnswer appended appendBuffer newAnswer newBuffer kindOfCode yearOfTwos entryBytes entryOf entryFor
+books-hold = refl
+
+-- ---- numbers
+
+-- lengths, counts and places
+abbrev pub counts : List (Case (Answer ℕ))
+counts =
+    (Gives (inGameHour 0) is Gives 8)
+    ∷ (Gives (inGameHour 1) is Gives 8)
+    ∷ (Gives (inGameHour 22) is Gives 19)
+    ∷ (putAnswer five (bytes "abcde") is Gives 5)
+    ∷ (putAnswer five (bytes "abcd") is Refused 7)
+    ∷ (newAnswer (replicate 5 7) is Gives 0)
+    ∷ (newAnswer (replicate 4 7) is Refused 12)
+    ∷ (check today (replicate 4 0) is Refused 9)
+    ∷ (check today (0 ∷ 0 ∷ 0 ∷ 0 ∷ 1 ∷ []) is Refused 9)
+    ∷ (check today (0 ∷ 0 ∷ 80 ∷ 2 ∷ 2 ∷ []) is Refused 9)
+    ∷ (check today (0 ∷ 0 ∷ 0 ∷ 2 ∷ 2 ∷ []) is Refused 9)
+    ∷ (check today (0 ∷ 0 ∷ 0 ∷ 2 ∷ 2 ∷ 0 ∷ []) is Refused 10)
+    ∷ (check today (0 ∷ 0 ∷ 0 ∷ 2 ∷ 1 ∷ 0 ∷ []) is Refused 9)
+    ∷ (check today (0 ∷ 0 ∷ 0 ∷ 6 ∷ 1 ∷ 7 ∷ 5 ∷ 164 ∷ 181 ∷ 128 ∷ []) is RefusedAt 11 0)
+    ∷ (check today (0 ∷ 0 ∷ 0 ∷ 11 ∷ 1 ∷ 2 ∷ 5 ∷ 164 ∷ 181 ∷ 128 ∷ 5 ∷ 5 ∷ 164 ∷ 181 ∷ 220 ∷ []) is RefusedAt 11 1)
+    ∷ (check today one is Gives 1)
+    ∷ (appendAnswer today (entryFor 2 (pos 1444) 46464) (newBuffer today (replicate 12 7)) is Gives 0)
+    ∷ (appendAnswer today (entryFor 2 (pos 1444) 46464) one is Refused 12)
+    ∷ (appendAnswer today (entryFor 2 (pos 1444) 46465) (replicate 4 0) is Refused 4)
+    ∷ (appendAnswer today (entryFor 7 (pos 1444) 46464) (replicate 4 0) is Refused 4)
+    ∷ []
+
+pub counts-hold : answers counts ≡ literals counts
+unfolding bigEndian bigBytes lengths monthLength ofKind made packed unpacked handedIn lengthSaid pieces recordsIn firstBad allSound records
+    check appendAnswer appended appendBuffer newAnswer newBuffer kindOfCode yearOfTwos entryBytes entryOf entryFor putAnswer
+counts-hold = refl
+
+-- differences, and what D and H write
+abbrev pub integers : List (Case (Answer ℤ))
+integers =
+    (difference kD (on (negsuc 0) 1 1 0) (on (negsuc 0) 1 2 0) is Gives (negsuc 0))
+    ∷ (difference kD (on (negsuc 32767) 12 31 0) (on (pos 32767) 12 31 0) is Gives (pos 23921003))
+    ∷ (difference kE (on (pos 1444) 11 11 22) (on (pos 1444) 11 12 0) is Gives (pos 1))
+    ∷ (difference kH (on (pos 1444) 11 11 1) (on (pos 1444) 11 12 1) is Refused 4)
+    ∷ (writeNumber kD (on (pos 1) 1 1 0) is Gives (pos 43808760))
+    ∷ (writeNumber kH (on (pos 1) 1 1 24) is Gives (pos 43808783))
+    ∷ (writeNumber kD (on (negsuc 32767) 1 1 0) is Gives (negsuc 243247679))
+    ∷ (writeNumber kV (on (pos 1) 1 1 0) is Refused 4)
+    ∷ []
+
+pub integers-hold : answers integers ≡ literals integers
+unfolding lengths sumFirst firstDay dayOfYear dayNumber difference straight writeNumber
+integers-hold = refl
+
+-- ---- `datelist`
+
+infixr 25 _line_
+abbrev _line_ : List ℕ → List ℕ → List ℕ
+l line s = l ++ lineEnd ++ s
+
+abbrev pub exampleInput : List ℕ
+exampleInput =
+    bytes "D t 1444.11.11" line bytes "E t 1444.11.11.23" line bytes "V b 43808760" line bytes "H b 43808760"
+    line bytes "U t 1444.2.30" line bytes "U b 0" line bytes "D t +1444.1.1" line bytes "D b -8760" line []
+
+abbrev pub exampleOutput : List ℕ
+exampleOutput =
+    bytes "D 1444.11.11 1444-11-11" line bytes "E 1444.11.11.22 1444-11-11T19" line bytes "V 1.1.1 0001-01-01T00"
+    line bytes "H 1.1.1.1 0001-01-01T00" line bytes "U 1444.02.30 1444-02-30" line bytes "? refused 8"
+    line bytes "D refused 2" line bytes "D -5001.1.1 -5001-01-01" line []
+
+pub example-holds : listing exampleInput ≡ exampleOutput
+unfolding lengths monthLength walk monthDay ofKind made settled numberFields decoded readNumber guessNumber
+    digits afterDigits decimalValue leading secondDigit oneOrTwo afterDot hourAfter dottedPart numberText shapeAllowed textFields readText
+    decimalIn decimal filled dottedHour dotted isoMonthDay isoHour isoDate iso
+    kindOfLetter wayOfLetter readLine allDigits lineNumber dateBy dateText requestText lineOutput onto lines joined listing
+example-holds = refl

@@ -1,0 +1,119 @@
+-- Document 01, "Fields and kinds": the six kinds, their fields, the packed word, the least and the greatest date. Assumes nothing.
+use Prim.Native.Nat.{ℕ, _+_, _*_, _/_, _%_}
+use mathlib.Core.Bool.{Bool, true, false, cond, _&&_, _||_}
+use lib.Dec.{leb, eqb}
+use lib.IntN.{ℤ, pos}
+use Rattle.rules.specs.Words.{within, minus, fits16}
+use Rattle.rules.specs.Refusals.{Answer, Gives, demand, notOfKind}
+use Rattle.rules.specs.Calendar.{monthLength}
+
+-- R raw, D plain, H hourly, U uniform, E EU5, V Victoria 3
+pub data Kind : Type 0 where
+  kR : Kind
+  kD : Kind
+  kH : Kind
+  kU : Kind
+  kE : Kind
+  kV : Kind
+
+pub record Fields : Type 0 where
+  pub year : ℤ
+  pub month : ℕ
+  pub day : ℕ
+  pub hour : ℕ
+
+-- the same date with another hour
+abbrev pub withHour : Fields → ℕ → Fields
+withHour f h = record { year = f .year; month = f .month; day = f .day; hour = h }
+
+-- the greatest day of a month: R's 31; "U: day at most 30 in every month"; elsewhere the "day fits the month"
+abbrev pub daysIn : Kind → ℕ → ℕ
+daysIn kR m = 31
+daysIn kD m = monthLength m
+daysIn kH m = monthLength m
+daysIn kU m = 30
+daysIn kE m = monthLength m
+daysIn kV m = monthLength m
+
+-- the hours of a kind
+abbrev pub hourFits : Kind → ℕ → Bool
+hourFits kR h = within 0 24 h
+hourFits kD h = eqb h 0
+hourFits kH h = within 1 24 h
+hourFits kU h = eqb h 0
+hourFits kE h = within 0 22 h
+hourFits kV h = eqb h 0 || eqb h 6 || eqb h 12 || eqb h 18
+
+-- whether these are the fields of a date of the kind
+unfoldable pub ofKind : Kind → Fields → Bool
+ofKind k f =
+    fits16 (f .year) && within 1 12 (f .month) && within 1 (daysIn k (f .month)) (f .day) && hourFits k (f .hour)
+
+-- a date of the kind with these fields, or the refusal n
+unfoldable pub made : Kind → ℕ → Fields → Answer Fields
+made k n f = demand (ofKind k f) n (Gives f)
+
+-- "Field sets of R, H and V carry an hour; those of D, U and E carry none, and their hour is 0"
+abbrev pub setHour : Kind → ℕ → ℕ
+setHour kR h = h
+setHour kD h = 0
+setHour kH h = h
+setHour kU h = 0
+setHour kE h = 0
+setHour kV h = h
+
+-- a date from a field set
+unfoldable pub fromFields : Kind → Fields → Answer Fields
+fromFields k f = made k notOfKind (withHour f (setHour k (f .hour)))
+
+-- E: "23 becomes 22", where a text or a number is read
+abbrev pub settledHour : Kind → ℕ → ℕ
+settledHour kR h = h
+settledHour kD h = h
+settledHour kH h = h
+settledHour kU h = h
+settledHour kE h = cond (eqb h 23) 22 h
+settledHour kV h = h
+
+-- a date of the kind with the fields that a text or a number has, or the refusal n
+unfoldable pub settled : Kind → ℕ → Fields → Answer Fields
+settled k n f = made k n (withHour f (settledHour k (f .hour)))
+
+-- "E's in-game hour is hour / 2 + 8, rounded down"
+abbrev pub inGameHour : ℕ → ℕ
+inGameHour h = h / 2 + 8
+
+-- "Packed beside the year: month × 4096 + day × 128 + hour × 4"
+unfoldable pub packed : Fields → ℕ
+packed f = f .month * 4096 + f .day * 128 + f .hour * 4
+
+-- the fields of a year and a word, whatever the word's two low bits
+unfoldable pub unpacked : ℤ → ℕ → Fields
+unpacked year word = record { year = year; month = word / 4096; day = word / 128 % 32; hour = word / 4 % 32 }
+
+-- a date handed in, as its year and its word: one of the kind, its two low bits 0, or 4
+unfoldable pub handedIn : Kind → ℤ → ℕ → Answer Fields
+handedIn k year word = demand (eqb (word % 4) 0) notOfKind (made k notOfKind (unpacked year word))
+
+-- "Each kind owns its least and greatest date"
+abbrev pub leastHour : Kind → ℕ
+leastHour kR = 0
+leastHour kD = 0
+leastHour kH = 1
+leastHour kU = 0
+leastHour kE = 0
+leastHour kV = 0
+
+abbrev pub greatestHour : Kind → ℕ
+greatestHour kR = 24
+greatestHour kD = 0
+greatestHour kH = 24
+greatestHour kU = 0
+greatestHour kE = 22
+greatestHour kV = 18
+
+unfoldable pub least : Kind → Fields
+least k = record { year = minus 32768; month = 1; day = 1; hour = leastHour k }
+
+unfoldable pub greatest : Kind → Fields
+greatest k = record { year = pos 32767; month = 12; day = daysIn k 12; hour = greatestHour k }

@@ -1,0 +1,10 @@
+pub mod Words
+pub mod Refusals
+pub mod Calendar
+pub mod Kinds
+pub mod Numbers
+pub mod Days
+pub mod Text
+pub mod Spelling
+pub mod Book
+pub mod Listing

@@ -1,0 +1,1 @@
+// Signed numbers as two naturals: so far the definitions and their laws alone (specs/, proofs/), no code.

@@ -1,3 +1,9 @@
+pub mod Table
+pub mod CalendarLaws
+pub mod KindLaws
+pub mod OrderLaws
+pub mod NumberLaws
+pub mod NumberBack
 pub mod Cases
 pub mod Pairs
 pub mod Bounds

@@ -3,8 +3,8 @@ use mathlib.Core.Path.{_≡_, refl, ap, sym, _∙_, subst}
 use mathlib.Core.Bool.{Bool, true, false, not, cond}
 use Prim.Native.Nat.{ℕ, zero, suc, _+_, _-_, _*_, _/_, _%_, _≤_, _<_}
 use native.Mathlib.Omega.{arith}
-use lib.IntN.{ℤ, pos, negsuc, negℤ, subℕ, natAbs, _+ℤ_, _-ℤ_, _*ℤ_}
-use lib.Signed.{mag, ltZ, leZ, quotZ, remZ, _≤ℤ_, _<ℤ_}
+use lib.IntN.{ℤ, pos, negsuc, negℤ, subℕ, natAbs, _+ℤ_, _*ℤ_}
+use lib.Signed.{ltZ, leZ, nonNeg, quotZ, remZ, _≤ℤ_, _<ℤ_}
 use lib.Dec.{T, ltb, leb, leb·suc-suc, leb→le, ltb→lt}
 use native.Mathlib.Nat.{add-zero, zero-add, zero-div, zero-mod}
 use borrow.Author.Tests.{ltb-true, ltb-false, leb-true, leb-false, lt-ltb, le-ltb, le-leb, lt-leb}
@@ -132,6 +132,19 @@ le-false a b e = leb-false _ _ (sym (leZ-is a b) ∙ e)
 pub le-by : (a b : ℤ) {t : Bool} → ltZ a b ≡ t → leZ b a ≡ not t
 le-by a b {t = true} e = no-le b a (lt-true a b e)
 le-by a b {t = false} e = yes-le b a (lt-false a b e)
+
+-- the sign
+pub yes-nonneg : (a : ℤ) → dn a ≡ 0 → nonNeg a ≡ true
+yes-nonneg (pos n) h = refl
+yes-nonneg (negsuc n) h = absurd (omega arith)
+
+pub no-nonneg : (a : ℤ) → 0 < dn a → nonNeg a ≡ false
+no-nonneg (pos n) h = absurd (omega arith)
+no-nonneg (negsuc n) h = refl
+
+pub nonneg-true : (a : ℤ) → nonNeg a ≡ true → dn a ≡ 0
+nonneg-true (pos n) e = refl
+nonneg-true (negsuc n) e = absurd (subst T (sym e) tt)
 
 -- the orders: `omega (arith, le-plain, lt-plain)` reads a hypothesis `a ≤ℤ b` or `a <ℤ b`
 pub le-plain : (a b : ℤ) → a ≤ℤ b → up a + dn b ≤ up b + dn a

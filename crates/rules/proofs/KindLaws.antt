@@ -1,5 +1,5 @@
 -- What the fields of a date of a kind have, by name. Assumes nothing.
-use mathlib.Core.Path.{_≡_, sym, subst}
+use mathlib.Core.Path.{_≡_, refl, sym, subst}
 use mathlib.Core.Bool.{Bool, true, false, _&&_, and-eq-true-iff}
 use Prim.Native.Nat.{ℕ, _≤_}
 use native.Mathlib.Omega.{arith}
@@ -82,10 +82,13 @@ keepsMonths kU = false
 keepsMonths kE = true
 keepsMonths kV = true
 
+pub days-in : (k : Kind) → keepsMonths k ≡ true → (m : ℕ) → daysIn k m ≡ monthLength m
+days-in kR e m = absurd (subst T (sym e) tt)
+days-in kD e m = refl
+days-in kH e m = refl
+days-in kU e m = absurd (subst T (sym e) tt)
+days-in kE e m = refl
+days-in kV e m = refl
+
 pub month-fits : (k : Kind) → keepsMonths k ≡ true → (f : Fields) → ofKind k f ≡ true → f .day ≤ monthLength (f .month)
-month-fits kR e f p = absurd (subst T (sym e) tt)
-month-fits kD e f p = fit kD f p .day-high
-month-fits kH e f p = fit kH f p .day-high
-month-fits kU e f p = absurd (subst T (sym e) tt)
-month-fits kE e f p = fit kE f p .day-high
-month-fits kV e f p = fit kV f p .day-high
+month-fits k e f p = rw (days-in k e (f .month)) at (fit k f p .day-high)

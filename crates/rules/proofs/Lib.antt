@@ -2,9 +2,14 @@ pub mod Table
 pub mod CalendarLaws
 pub mod KindLaws
 pub mod OrderLaws
+pub mod PackLaws
 pub mod NumberLaws
 pub mod NumberBack
+pub mod DayLaws
+pub mod AddLaws
+pub mod SignLaws
 pub mod Cases
 pub mod Pairs
 pub mod Bounds
 pub mod Texts
+pub mod Lines

@@ -13,7 +13,7 @@ use Rattle.rules.specs.Words.{minus, withinZ, eqZ, fits16}
 use Rattle.rules.specs.Refusals.{Answer, Gives, Refused, RefusedAt, _then_, demand, given, notNumber, notOfKind}
 use Rattle.rules.specs.Calendar.{monthDay, dayOfYear}
 use Rattle.rules.specs.Kinds.{Kind, kR, kD, kH, kU, kE, kV, Fields, ofKind, made, settled, hourFits, leastHour}
-use Rattle.rules.specs.Numbers.{onDay, hourOf, dayOf, yearOf, numberFields, readsNumbers, decodedHour, decoded, readNumber, guesses, guessed, guessNumber, newYear, straight, writesNumbers, writtenHour, writeNumber}
+use Rattle.rules.specs.Numbers.{onDay, hourOf, dayOf, yearOf, hasFields, numberFields, readsNumbers, decodedHour, decoded, readNumber, guesses, guessed, guessNumber, newYear, straight, writesNumbers, writtenHour, writeNumber}
 use Rattle.rules.proofs.KindLaws.{Fit, fit, left, right, low, high}
 
 -- ---- which numbers are read
@@ -31,17 +31,14 @@ given-demand : {A : Type 0} (t : Bool) (n : ℕ) (a : A) → given (demand t n (
 given-demand true n a = refl
 given-demand false n a = refl
 
--- the test of `numberFields`, over the two naturals of s
-abbrev pub stands : ℤ → Bool
-stands s = nonNeg (hourOf s) && nonNeg (dayOf s) && fits16 (yearOf s)
-
+-- `hasFields`, over the two naturals of s
 pub record Stands (u d : ℕ) : Type 0 where
   pub hour : d % 24 ≡ 0
   pub day : d / 24 % 365 ≡ 0
   pub low : d / 8760 + 5000 ≤ u / 8760 + 32768
   pub high : u / 8760 ≤ d / 8760 + 5000 + 32767
 
-pub stands-tells : (s : ℤ) → stands s ≡ true → Stands (up s) (dn s)
+pub stands-tells : (s : ℤ) → hasFields s ≡ true → Stands (up s) (dn s)
 stands-tells s e =
     let hd = left (nonNeg (hourOf s) && nonNeg (dayOf s)) (fits16 (yearOf s)) e in
     let y = right (nonNeg (hourOf s) && nonNeg (dayOf s)) (fits16 (yearOf s)) e in
@@ -54,7 +51,7 @@ stands-tells s e =
       high = omega arith;
     }
 
-pub stands-from : (s : ℤ) → Stands (up s) (dn s) → stands s ≡ true
+pub stands-from : (s : ℤ) → Stands (up s) (dn s) → hasFields s ≡ true
 stands-from s t =
     rw (
       yes-nonneg (hourOf s) (simp ints (t .hour)),
@@ -99,8 +96,8 @@ readable-from s t =
 pub fields-exactly : (n : ℕ) (s : ℤ) → given (numberFields n s) ≡ readable s
 unfolding numberFields
 fields-exactly n s =
-    given-demand (stands s) n _
-    ∙ same-truth (stands s) (readable s) (λ e. readable-from s (stands-tells s e)) (λ e. stands-from s (readable-tells s e))
+    given-demand (hasFields s) n _
+    ∙ same-truth (hasFields s) (readable s) (λ e. readable-from s (stands-tells s e)) (λ e. stands-from s (readable-tells s e))
 
 -- ---- what the full decoder and the guess give
 
@@ -166,4 +163,4 @@ fields-at r s y d h t p q u = rw (stands-from s t) (λ i. Gives (onDay (p i) (q 
 -- and none of a negative number that is no multiple of 8760
 pub fields-refused : (r : ℕ) (s : ℤ) → (dn s % 8760 ≡ 0 → ⊥) → numberFields r s ≡ Refused r
 unfolding numberFields
-fields-refused r s h = demand-false (stands s) r _ (λ e. let t = stands-tells s e in h (omega arith))
+fields-refused r s h = demand-false (hasFields s) r _ (λ e. let t = stands-tells s e in h (omega arith))

@@ -41,28 +41,27 @@ same-order a b c d x less more equal = split (ltb a b) (ltb b a) refl refl
         let m = ltb-false a b p in let n = ltb-false b a q in let e = equal (omega arith) in
         rw (le-ltb c d (omega arith), le-ltb d c (omega arith))
 
--- a digit to the base 32 after a number
-digit-order : (a b c d : ℕ) (x : Order) → c < 32 → d < 32 → byN (a * 32 + c) (b * 32 + d) x ≡ byN a b (byN c d x)
-digit-order a b c d x h l = split (ltb a b) (ltb b a) refl refl
+-- pairs in the order of their first numbers, then of their second
+pub pair-order : (a b c d p q : ℕ) (x : Order) → (a < b → p < q) → (b < a → q < p) →
+    (a ≡ b → (c < d → p < q) × (d < c → q < p) × (c ≡ d → p ≡ q)) → byN p q x ≡ byN a b (byN c d x)
+pair-order a b c d p q x less more equal = split (ltb a b) (ltb b a) refl refl
   where
-    split : (s t : Bool) → ltb a b ≡ s → ltb b a ≡ t → byN (a * 32 + c) (b * 32 + d) x ≡ cond s Before (cond t After (byN c d x))
-    split true t p q = let m = ltb-true a b p in rw (lt-ltb (a * 32 + c) (b * 32 + d) (omega arith))
-    split false true p q =
-        let m = ltb-true b a q in
-        rw (le-ltb (a * 32 + c) (b * 32 + d) (omega arith), lt-ltb (b * 32 + d) (a * 32 + c) (omega arith))
-    split false false p q =
-        let m = ltb-false a b p in let n = ltb-false b a q in
-        same-order c d (a * 32 + c) (b * 32 + d) x (λ r. omega arith) (λ r. omega arith) (λ r. omega arith)
+    split : (s t : Bool) → ltb a b ≡ s → ltb b a ≡ t → byN p q x ≡ cond s Before (cond t After (byN c d x))
+    split true t i j = rw (lt-ltb p q (less (ltb-true a b i)))
+    split false true i j = let l = more (ltb-true b a j) in rw (le-ltb p q (omega arith), lt-ltb q p l)
+    split false false i j =
+        let m = ltb-false a b i in let n = ltb-false b a j in let e = equal (omega arith) in
+        same-order c d p q x (e .0) (e .1) (e .2)
 
 packed-order : (f g : Fields) → f .day < 32 → g .day < 32 → f .hour < 32 → g .hour < 32 →
     byN (packed f) (packed g) Same ≡ byN (f .month) (g .month) (byN (f .day) (g .day) (byN (f .hour) (g .hour) Same))
 unfolding packed
 packed-order f g a b c d =
-    let m = f .month * 32 + f .day in
-    let n = g .month * 32 + g .day in
-    same-order (m * 32 + f .hour) (n * 32 + g .hour) (packed f) (packed g) Same (λ r. omega arith) (λ r. omega arith) (λ r. omega arith)
-    ∙ digit-order m n (f .hour) (g .hour) Same c d
-    ∙ digit-order (f .month) (g .month) (f .day) (g .day) (byN (f .hour) (g .hour) Same) a b
+    pair-order (f .month) (g .month) (f .day * 32 + f .hour) (g .day * 32 + g .hour) (packed f) (packed g) Same
+    (λ l. omega arith) (λ l. omega arith) (λ e. (λ l. omega arith, λ l. omega arith, λ l. omega arith))
+    ∙ ap (byN (f .month) (g .month))
+    (pair-order (f .day) (g .day) (f .hour) (g .hour) (f .day * 32 + f .hour) (g .day * 32 + g .hour) Same
+    (λ l. omega arith) (λ l. omega arith) (λ e. (λ l. omega arith, λ l. omega arith, λ l. omega arith)))
 
 -- ---- a kind's days and hours lie between its least and its greatest
 
@@ -172,10 +171,9 @@ unfolding least greatest
 between-ends k f p =
     let t = fit k f p in
     let h = hours-between k (f .hour) (t .hour-fits) in
-    let d = most k (f .month) (t .month-high) in
-    (
+    let d = most k (f .month) (t .month-high) in (
       rw (order-is k k (least k) f (least-is-date k) p)
-      (byZ-up (minus 32768) (f .year) _ (omega arith) (byN-up 1 (f .month) _ (omega arith) (byN-up 1 (f .day) _ (omega arith) (byN-up (leastHour k) (f .hour) Same (h .0) refl)))),
+          (byZ-up (minus 32768) (f .year) _ (omega arith) (byN-up 1 (f .month) _ (omega arith) (byN-up 1 (f .day) _ (omega arith) (byN-up (leastHour k) (f .hour) Same (h .0) refl)))),
       rw (order-is k k f (greatest k) p (greatest-is-date k))
-      (byZ-up (f .year) (pos 32767) _ (omega arith) (byN-up (f .month) 12 _ (omega arith) (byN-up (f .day) (daysIn k 12) _ (omega arith) (byN-up (f .hour) (greatestHour k) Same (h .1) refl)))),
+          (byZ-up (f .year) (pos 32767) _ (omega arith) (byN-up (f .month) 12 _ (omega arith) (byN-up (f .day) (daysIn k 12) _ (omega arith) (byN-up (f .hour) (greatestHour k) Same (h .1) refl)))),
     )

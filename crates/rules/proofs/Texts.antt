@@ -1,20 +1,17 @@
--- Document 01's small examples of what is written: texts, the book's bytes, numbers; and the `datelist` example whole.
--- Assumes nothing.
+-- Document 01's small examples of what is written: texts, the book's bytes, numbers. Assumes nothing.
 use Prim.Native.Nat.{ℕ}
 use mathlib.Core.Path.{_≡_, refl}
-use mathlib.Core.List.{List, [], _∷_, _++_}
+use mathlib.Core.List.{List, [], _∷_}
 use lib.IntN.{ℤ, pos, negsuc}
 use lib.ListN.{replicate}
 use Rattle.rules.specs.Words.{bytes, bigEndian, bigBytes}
 use Rattle.rules.specs.Refusals.{Answer, Gives, Refused, RefusedAt}
-use Rattle.rules.specs.Calendar.{lengths, monthLength, sumFirst, firstDay, dayOfYear, walk, monthDay}
-use Rattle.rules.specs.Kinds.{kR, kD, kH, kU, kE, kV, Fields, inGameHour, ofKind, made, settled, packed, unpacked, handedIn}
-use Rattle.rules.specs.Numbers.{numberFields, decoded, readNumber, guessNumber, straight, writeNumber}
+use Rattle.rules.specs.Calendar.{lengths, monthLength, sumFirst, firstDay, dayOfYear}
+use Rattle.rules.specs.Kinds.{kR, kD, kH, kU, kE, kV, inGameHour, ofKind, made, packed, unpacked, handedIn}
+use Rattle.rules.specs.Numbers.{straight, writeNumber}
 use Rattle.rules.specs.Days.{dayNumber, difference}
-use Rattle.rules.specs.Text.{digits, afterDigits, decimalValue, leading, secondDigit, oneOrTwo, afterDot, hourAfter, dottedPart, numberText, shapeAllowed, textFields, readText}
 use Rattle.rules.specs.Spelling.{decimalIn, decimal, filled, dottedHour, dotted, isoMonthDay, isoHour, isoDate, iso, exchange, isoDateAlone, putAnswer, putBuffer}
 use Rattle.rules.specs.Book.{lengthSaid, pieces, recordsIn, firstBad, allSound, records, check, appendAnswer, appended, appendBuffer, newAnswer, newBuffer, kindOfCode, yearOfTwos, entryBytes, entryOf, today, entryFor}
-use Rattle.rules.specs.Listing.{kindOfLetter, wayOfLetter, readLine, allDigits, lineNumber, dateBy, dateText, requestText, lineOutput, lineEnd, onto, lines, joined, listing}
 use Rattle.rules.proofs.Cases.{Case, _is_, answers, literals, on}
 
 -- ---- texts
@@ -125,27 +122,3 @@ integers =
 pub integers-hold : answers integers ≡ literals integers
 unfolding lengths sumFirst firstDay dayOfYear dayNumber difference straight writeNumber
 integers-hold = refl
-
--- ---- `datelist`
-
-infixr 25 _line_
-abbrev _line_ : List ℕ → List ℕ → List ℕ
-l line s = l ++ lineEnd ++ s
-
-abbrev pub exampleInput : List ℕ
-exampleInput =
-    bytes "D t 1444.11.11" line bytes "E t 1444.11.11.23" line bytes "V b 43808760" line bytes "H b 43808760"
-    line bytes "U t 1444.2.30" line bytes "U b 0" line bytes "D t +1444.1.1" line bytes "D b -8760" line []
-
-abbrev pub exampleOutput : List ℕ
-exampleOutput =
-    bytes "D 1444.11.11 1444-11-11" line bytes "E 1444.11.11.22 1444-11-11T19" line bytes "V 1.1.1 0001-01-01T00"
-    line bytes "H 1.1.1.1 0001-01-01T00" line bytes "U 1444.02.30 1444-02-30" line bytes "? refused 8"
-    line bytes "D refused 2" line bytes "D -5001.1.1 -5001-01-01" line []
-
-pub example-holds : listing exampleInput ≡ exampleOutput
-unfolding lengths monthLength walk monthDay ofKind made settled numberFields decoded readNumber guessNumber
-    digits afterDigits decimalValue leading secondDigit oneOrTwo afterDot hourAfter dottedPart numberText shapeAllowed textFields readText
-    decimalIn decimal filled dottedHour dotted isoMonthDay isoHour isoDate iso
-    kindOfLetter wayOfLetter readLine allDigits lineNumber dateBy dateText requestText lineOutput onto lines joined listing
-example-holds = refl

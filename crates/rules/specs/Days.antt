@@ -11,10 +11,11 @@ use Rattle.rules.specs.Kinds.{Kind, kR, kD, kH, kU, kE, kV, Fields, with
 use Rattle.rules.specs.Numbers.{onDay}
 
 -- "365 × year + day of year for years from 0, and 365 × year - day of year before"
+abbrev pub dayNumberAt : ℤ → ℕ → ℤ
+dayNumberAt year doy = cond (ltZ year (pos 0)) (pos 365 *ℤ year -ℤ pos doy) (pos 365 *ℤ year +ℤ pos doy)
+
 unfoldable pub dayNumber : Fields → ℤ
-dayNumber f =
-    cond (ltZ (f .year) (pos 0)) (pos 365 *ℤ f .year -ℤ pos (dayOfYear (f .month) (f .day)))
-    (pos 365 *ℤ f .year +ℤ pos (dayOfYear (f .month) (f .day)))
+dayNumber f = dayNumberAt (f .year) (dayOfYear (f .month) (f .day))
 
 -- D, V and E count days
 abbrev pub countsDays : Kind → Bool

@@ -23,11 +23,13 @@ dayOf s = remZ (quotZ s (pos 24)) (pos 365)
 abbrev pub yearOf : ℤ → ℤ
 yearOf s = quotZ s (pos 8760) -ℤ pos 5000
 
--- the fields of the number s, or the refusal n: "a negative one refuses", and so does a year that does not fit
+-- "a negative one refuses", and so does a year that does not fit
+abbrev pub hasFields : ℤ → Bool
+hasFields s = nonNeg (hourOf s) && nonNeg (dayOf s) && fits16 (yearOf s)
+
+-- the fields of the number s, or the refusal n
 unfoldable pub numberFields : ℕ → ℤ → Answer Fields
-numberFields n s =
-    demand (nonNeg (hourOf s) && nonNeg (dayOf s) && fits16 (yearOf s)) n
-    (Gives (onDay (yearOf s) (natAbs (dayOf s)) (natAbs (hourOf s))))
+numberFields n s = demand (hasFields s) n (Gives (onDay (yearOf s) (natAbs (dayOf s)) (natAbs (hourOf s))))
 
 -- ---- the full decoder
 

@@ -1,0 +1,84 @@
+//! leading.txt and leading-long.txt: `"TEXT" VALUE REST_LENGTH` or `"TEXT" refused`, from the
+//! original's `to_i64_t`.
+
+use crate::answers::{Answers, quoted};
+use crate::random::Random;
+use crate::text_edges::{self, LONGEST};
+use jomini::leaves;
+
+const SAMPLES: usize = 500;
+const LONG_SAMPLES: usize = 200;
+
+/// Both sides of 64 bits, with and without a sign, and values that come back after wrapping.
+const MAGNITUDES: [&str; 20] = [
+    "99999999999999999",
+    "999999999999999999",
+    "1000000000000000000",
+    "9223372036854775806",
+    "9223372036854775807",
+    "9223372036854775808",
+    "9223372036854775809",
+    "9999999999999999999",
+    "10000000000000000000",
+    "18446744073709551615",
+    "18446744073709551616",
+    "18446744073709553060",
+    "99999999999999999999",
+    "100000000000000000000",
+    "184467440737095516161444",
+    "00000000000000001444",
+    "000000000000000000001444",
+    "00000000000000000000000000000001444",
+    "00000000009223372036854775808",
+    "00000000018446744073709551616",
+];
+
+pub fn ask(answers: &mut Answers) {
+    for text in text_edges::all() {
+        answers.edge(row(&text));
+    }
+    for _ in 0..SAMPLES {
+        let text = number_and_rest(&mut answers.random, 0, LONGEST);
+        answers.sample(row(&text));
+    }
+}
+
+/// Each magnitude behind every sign and before some rests.
+pub fn ask_long(answers: &mut Answers) {
+    for magnitude in MAGNITUDES {
+        for sign in ["", "-", "+"] {
+            for rest in ["", ".", ".1.1", "x", "-1"] {
+                let text = format!("{sign}{magnitude}{rest}");
+                answers.edge(row(text.as_bytes()));
+            }
+        }
+    }
+    for _ in 0..LONG_SAMPLES {
+        let text = number_and_rest(&mut answers.random, LONGEST + 1, 40);
+        answers.sample(row(&text));
+    }
+}
+
+fn row(text: &[u8]) -> String {
+    match leaves::leading_number(text) {
+        Some((value, rest)) => format!("{} {value} {rest}", quoted(text)),
+        None => format!("{} refused", quoted(text)),
+    }
+}
+
+/// A text of so many bytes: perhaps a sign, then digits, then anything.
+fn number_and_rest(random: &mut Random, shortest: usize, longest: usize) -> Vec<u8> {
+    let length = shortest + random.index(longest - shortest + 1);
+    let digits = random.index(length + 1);
+    let is_zeros = random.chance(30);
+    let mut text = Vec::new();
+    for place in 0..length {
+        text.push(match place {
+            0 if random.chance(40) => random.pick(b"-+"),
+            _ if place >= digits => random.pick(b".-+x0159 \xff"),
+            _ if is_zeros && place + 4 < digits => b'0',
+            _ => random.pick(b"0123456789"),
+        });
+    }
+    text
+}

@@ -16,7 +16,7 @@ use Rattle.rules.specs.Kinds.{Kind, kR, kD, kH, kU, kE, kV, Fields, with
 use Rattle.rules.specs.Numbers.{onDay}
 use Rattle.rules.specs.Days.{dayNumber, countsDays, difference, dayFields, summed, summedHour, addDays, startOfDay}
 use Rattle.rules.proofs.KindLaws.{Fit, fit, left, right}
-use Rattle.rules.proofs.DayLaws.{counter, summed-in, summed-only, date-back, is-date, noDate, number-back}
+use Rattle.rules.proofs.DayLaws.{counter, summed-in, summed-only, date-back, is-date, noDate, number-of-date}
 
 -- ---- adding the difference
 
@@ -71,7 +71,7 @@ add-twice k c f a b e l =
     let n = dayNumber f +ℤ a in
     let h = summedHour k (f .hour) in
     let r = summed-only n h (rw c at e) in
-    rw (c, summed-in n h (r .0) (r .1), number-back n h l, hour-kept k (f .hour), +ℤ-assoc (dayNumber f) a b)
+    rw (c, summed-in n h (r .0) (r .1), number-of-date n h l, hour-kept k (f .hour), +ℤ-assoc (dayNumber f) a b)
 
 -- a sum is a date of its kind
 pub sum-is-date : (k : Kind) → countsDays k ≡ true → (f g : Fields) (a : ℤ) → ofKind k f ≡ true → addDays k f a ≡ Gives g → ofKind k g ≡ true
@@ -111,5 +111,5 @@ landing k c f a e = land (dayNumber f +ℤ a) e
           rw (c, summed-in n h (yes-le (minus 11960684) n (omega arith)) (yes-le n (pos 11960319) (omega arith)))
               (λ i. Gives (onDay (year′ i) (day i) h)),
           year,
-          number-back (negℤ n) h none,
+          number-of-date (negℤ n) h none,
         )

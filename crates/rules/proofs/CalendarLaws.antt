@@ -1,11 +1,11 @@
 -- The day of year and (month, day) are inverse, and a year has 365 days. Each is one test that is computed. Assumes nothing.
 use mathlib.Core.Path.{_≡_, refl}
-use mathlib.Core.Bool.{Bool}
+use mathlib.Core.Bool.{Bool, _&&_}
 use Prim.Native.Nat.{ℕ, zero, suc, _+_, _≤_, _<_}
 use native.Mathlib.Omega.{arith}
 use lib.Dec.{T, eqb, eqb→eq, ltb, ltb→lt, leb, leb→le}
 use Rattle.rules.specs.Calendar.{MonthDay, lengths, monthLength, sumFirst, firstDay, dayOfYear, walk, monthDay}
-use Rattle.rules.proofs.Table.{both, both-left, both-right, upto, below}
+use Rattle.rules.proofs.Table.{left-yes, right-yes, upto, below}
 
 pub year-length : sumFirst 12 lengths ≡ 365
 unfolding sumFirst lengths
@@ -21,12 +21,12 @@ there-and-back d h = eqb→eq _ _ (below back 365 tt d h)
 
 -- whether x is this month and this day
 abbrev same : MonthDay → ℕ → ℕ → Bool
-same x m d = both (eqb (x .month) m) (eqb (x .day) d)
+same x m d = eqb (x .month) m && eqb (x .day) d
 
 same-is : (x : MonthDay) (m d : ℕ) → T (same x m d) → x ≡ record { month = m; day = d }
 same-is x m d t =
-    let e : x .month ≡ m = eqb→eq (x .month) m (both-left (eqb (x .month) m) (eqb (x .day) d) t) in
-    let f : x .day ≡ d = eqb→eq (x .day) d (both-right (eqb (x .month) m) (eqb (x .day) d) t) in
+    let e : x .month ≡ m = eqb→eq (x .month) m (left-yes (eqb (x .month) m) (eqb (x .day) d) t) in
+    let f : x .day ≡ d = eqb→eq (x .day) d (right-yes (eqb (x .month) m) (eqb (x .day) d) t) in
     λ i. record { month = e i; day = f i }
 
 forth : ℕ → ℕ → Bool
@@ -79,18 +79,18 @@ pub record IsDay (x : MonthDay) : Type 0 where
   pub day-high : x .day ≤ monthLength (x .month)
 
 stands : MonthDay → Bool
-stands x = both (leb 1 (x .month)) (both (leb (x .month) 12) (both (leb 1 (x .day)) (leb (x .day) (monthLength (x .month)))))
+stands x = leb 1 (x .month) && (leb (x .month) 12 && (leb 1 (x .day) && leb (x .day) (monthLength (x .month))))
 
 stands-tells : (x : MonthDay) → T (stands x) → IsDay x
 unfolding stands
 stands-tells x t =
-    let a = both-right (leb 1 (x .month)) _ t in
-    let b = both-right (leb (x .month) 12) _ a in
+    let a = right-yes (leb 1 (x .month)) _ t in
+    let b = right-yes (leb (x .month) 12) _ a in
     record {
-      month-low = leb→le 1 _ (both-left (leb 1 (x .month)) _ t);
-      month-high = leb→le _ 12 (both-left (leb (x .month) 12) _ a);
-      day-low = leb→le 1 _ (both-left (leb 1 (x .day)) _ b);
-      day-high = leb→le _ _ (both-right (leb 1 (x .day)) _ b);
+      month-low = leb→le 1 _ (left-yes (leb 1 (x .month)) _ t);
+      month-high = leb→le _ 12 (left-yes (leb (x .month) 12) _ a);
+      day-low = leb→le 1 _ (left-yes (leb 1 (x .day)) _ b);
+      day-high = leb→le _ _ (right-yes (leb 1 (x .day)) _ b);
     }
 
 pub is-day : (d : ℕ) → d < 365 → IsDay (monthDay d)

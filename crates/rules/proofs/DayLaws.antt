@@ -124,6 +124,6 @@ number-of (negsuc n) e = number-of-neg (negsuc n) (by (leZ (minus 364) (negsuc n
     by true p q = let l = le-false (negsuc n) (minus 1) q in absurd (omega arith)
     by false p q = let l = le-false (minus 364) (negsuc n) p in omega arith
 
-pub number-back : (n : ℤ) (h : ℕ) → noDate n ≡ false → dayNumber (dayFields n h) ≡ n
+pub number-of-date : (n : ℤ) (h : ℕ) → noDate n ≡ false → dayNumber (dayFields n h) ≡ n
 unfolding dayFields dayNumber
-number-back n h e = rw (there-and-back (natAbs (remZ n (pos 365))) (rem-small n)) (number-of n e)
+number-of-date n h e = rw (there-and-back (natAbs (remZ n (pos 365))) (rem-small n)) (number-of n e)

@@ -1,4 +1,5 @@
 pub mod Table
+pub mod Rests
 pub mod CalendarLaws
 pub mod KindLaws
 pub mod OrderLaws

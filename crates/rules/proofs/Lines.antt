@@ -8,7 +8,7 @@ use Rattle.rules.specs.Kinds.{ofKind, made, settled}
 use Rattle.rules.specs.Numbers.{numberFields, decoded, readNumber, guessNumber}
 use Rattle.rules.specs.Text.{digits, afterDigits, decimalValue, leading, secondDigit, oneOrTwo, afterDot, hourAfter, dottedPart, numberText, shapeAllowed, textFields, readText}
 use Rattle.rules.specs.Spelling.{decimalIn, decimal, filled, dottedHour, dotted, isoMonthDay, isoHour, isoDate, iso}
-use Rattle.rules.specs.Listing.{kindOfLetter, wayOfLetter, readLine, allDigits, lineNumber, dateBy, dateText, requestText, lineOutput, lineEnd, onto, lines, joined, listing}
+use Rattle.rules.specs.Listing.{kindOfLetter, wayOfLetter, readLine, digitsAsNumber, lineNumber, dateBy, dateText, requestText, lineOutput, lineEnd, onto, lines, joined, listing}
 use Rattle.rules.proofs.Cases.{Case, _is_, answers, literals}
 
 infixr 25 _line_
@@ -60,12 +60,12 @@ pub listings-hold : answers listings ≡ literals listings
 unfolding lengths monthLength walk monthDay ofKind made settled numberFields decoded readNumber guessNumber
     digits afterDigits decimalValue leading secondDigit oneOrTwo afterDot hourAfter dottedPart numberText shapeAllowed textFields readText
     decimalIn decimal filled dottedHour dotted isoMonthDay isoHour isoDate iso
-    kindOfLetter wayOfLetter readLine allDigits lineNumber dateBy dateText requestText lineOutput onto lines joined listing
+    kindOfLetter wayOfLetter readLine digitsAsNumber lineNumber dateBy dateText requestText lineOutput onto lines joined listing
 listings-hold = refl
 
 pub one-line-holds : answers oneLine ≡ literals oneLine
 unfolding lengths monthLength walk monthDay ofKind made settled numberFields decoded readNumber guessNumber
     digits afterDigits decimalValue leading secondDigit oneOrTwo afterDot hourAfter dottedPart numberText shapeAllowed textFields readText
     decimalIn decimal filled dottedHour dotted isoMonthDay isoHour isoDate iso
-    kindOfLetter wayOfLetter readLine allDigits lineNumber dateBy dateText requestText lineOutput
+    kindOfLetter wayOfLetter readLine digitsAsNumber lineNumber dateBy dateText requestText lineOutput
 one-line-holds = refl

@@ -1,4 +1,4 @@
--- Which numbers are read, and that reading back what D and H write gives the date. Assumes nothing.
+-- Which numbers are read, exactly; the guess is narrow; a number's fields by their parts. Assumes nothing.
 use mathlib.Core.Path.{_≡_, refl, _∙_, sym, ap, subst}
 use mathlib.Core.Bool.{Bool, true, false, cond, _&&_, _||_}
 use Prim.Native.Nat.{ℕ, zero, suc, _+_, _-_, _*_, _/_, _%_, _≤_, _<_}

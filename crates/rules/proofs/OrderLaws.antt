@@ -12,19 +12,12 @@ use Rattle.sign.specs.Halves.{up, dn}
 use Rattle.sign.proofs.Laws.{one-side, lt-true, lt-false, no-lt, yes-lt}
 use Rattle.rules.specs.Words.{minus}
 use Rattle.rules.specs.Calendar.{lengths, monthLength}
-use Rattle.rules.specs.Kinds.{Kind, kR, kD, kH, kU, kE, kV, Fields, daysIn, hourFits, ofKind, packed, leastHour, greatestHour, least, greatest}
-use Rattle.rules.specs.Days.{Order, Before, Same, After, order}
+use Rattle.rules.specs.Kinds.{Kind, kR, kD, kH, kU, kE, kV, Fields, daysIn, hourFits, ofKind, inGameHour, packed, leastHour, greatestHour, least, greatest}
+use Rattle.rules.specs.Days.{Order, Before, Same, After, byZ, byN, order}
 use Rattle.rules.proofs.CalendarLaws.{length-small}
 use Rattle.rules.proofs.KindLaws.{Fit, fit, fit-back, low, high}
 
 -- ---- the order of the fields
-
--- by the first that differs: two integers, or two naturals, and then what follows
-abbrev pub byZ : ℤ → ℤ → Order → Order
-byZ a b next = cond (ltZ a b) Before (cond (ltZ b a) After next)
-
-abbrev pub byN : ℕ → ℕ → Order → Order
-byN a b next = cond (ltb a b) Before (cond (ltb b a) After next)
 
 abbrev pub byFields : Fields → Fields → Order
 byFields f g =
@@ -116,6 +109,10 @@ day-small k f p =
 
 pub hour-small : (k : Kind) (f : Fields) → ofKind k f ≡ true → f .hour < 32
 hour-small k f p = let h = hours-between k (f .hour) (fit k f p .hour-fits) in let e = hours-small k in omega arith
+
+-- "E's in-game hour is .. 8 to 19"
+pub in-game-hours : (h : ℕ) → hourFits kE h ≡ true → (8 ≤ inGameHour h) × (inGameHour h ≤ 19)
+in-game-hours h e = let b = hours-between kE h e in omega arith
 
 -- ---- the laws
 

@@ -13,10 +13,10 @@ use Rattle.rules.specs.Words.{eqZ}
 use Rattle.rules.specs.Refusals.{Answer, Gives, _then_, demand}
 use Rattle.rules.specs.Calendar.{monthLength, firstDay, dayOfYear}
 use Rattle.rules.specs.Kinds.{Kind, kR, kD, kH, kU, kE, kV, Fields, withHour, hourFits, ofKind}
-use Rattle.rules.specs.Days.{dayNumberAt, dayNumber, countsDays, difference, Order, Before, Same, After, order}
+use Rattle.rules.specs.Days.{dayNumberAt, dayNumber, countsDays, difference, Order, Before, Same, After, byZ, byN, order}
 use Rattle.rules.proofs.CalendarLaws.{months-follow, day-of-year-small}
 use Rattle.rules.proofs.KindLaws.{Fit, fit, fit-back, month-fits}
-use Rattle.rules.proofs.OrderLaws.{byZ, byN, byFields, pair-order, order-is}
+use Rattle.rules.proofs.OrderLaws.{byFields, pair-order, order-is}
 use Rattle.rules.proofs.DayLaws.{counter}
 
 -- the order that a difference's sign tells: a positive one, that the first date is before the second

@@ -53,7 +53,7 @@ buffers =
     ∷ []
 
 pub buffers-hold : answers buffers ≡ literals buffers
-unfolding putBuffer isoDateAlone
+unfolding putAnswer putBuffer isoDateAlone
 buffers-hold = refl
 
 -- ---- the book: D 1444.11.11 alone, in a buffer of 12 bytes

@@ -7,7 +7,7 @@ use lib.IntN.{ℤ, pos, negsuc, _-ℤ_}
 use lib.ListN.{length, getD, take, drop}
 use Rattle.rules.specs.Words.{within, bigEndian, bigBytes}
 use Rattle.rules.specs.Refusals.{Answer, Gives, Refused, RefusedAt, _then_, demand, given, notOfKind, badLength, badVersion, badRecord, noRoom, noRecord}
-use Rattle.rules.specs.Kinds.{Kind, kR, kD, kH, kU, kE, kV, Fields, packed, handedIn}
+use Rattle.rules.specs.Kinds.{Kind, kR, kD, kH, kU, kE, kV, kindBy, Fields, packed, handedIn}
 
 -- ---- the format
 
@@ -21,9 +21,19 @@ pub record Format : Type 0 where
   -- whether a record is one that a date of its kind has
   pub sound : List ℕ → Bool
 
--- "Four bytes of length (big-endian, counting what follows)"
+-- "Four bytes of length (big-endian, counting what follows), version byte 1, records"
+abbrev pub lengthSize : ℕ
+lengthSize = 4
+
+abbrev pub headSize : ℕ
+headSize = lengthSize + 1
+
+-- the length that a book says of itself
 unfoldable pub lengthSaid : List ℕ → ℕ
-lengthSaid s = bigEndian (take 4 s)
+lengthSaid s = bigEndian (take lengthSize s)
+
+abbrev pub versionOf : List ℕ → ℕ
+versionOf s = getD s lengthSize 0
 
 -- n pieces of k bytes each
 unfoldable pub pieces : ℕ → ℕ → List ℕ → List (List ℕ)
@@ -32,7 +42,7 @@ pieces (suc n) k s = take k s ∷ pieces n k (drop k s)
 
 -- the records that stand after the length and the version byte
 unfoldable pub recordsIn : Format → List ℕ → List (List ℕ)
-recordsIn format s = pieces ((lengthSaid s - 1) / format .size) (format .size) (drop 5 s)
+recordsIn format s = pieces ((lengthSaid s - 1) / format .size) (format .size) (drop headSize s)
 
 -- the place of the first record that is not sound, from 0; where there is none, their number
 unfoldable pub firstBad : (List ℕ → Bool) → List (List ℕ) → ℕ
@@ -47,10 +57,10 @@ allSound format rs =
 -- the records of a book: "9 but for its last case, 10, that case, 11"
 unfoldable pub records : Format → List ℕ → Answer (List (List ℕ))
 records format s =
-    demand (leb 5 (length s)) badLength
+    demand (leb headSize (length s)) badLength
     (demand (within 1 (1 + format .most * format .size) (lengthSaid s)) badLength
-    (demand (leb (lengthSaid s + 4) (length s)) badLength
-    (demand (eqb (getD s 4 0) (format .version)) badVersion
+    (demand (leb (lengthSaid s + lengthSize) (length s)) badLength
+    (demand (eqb (versionOf s) (format .version)) badVersion
     (demand (eqb ((lengthSaid s - 1) % format .size) 0) badLength
     (allSound format (recordsIn format s))))))
 
@@ -73,13 +83,13 @@ recordAt format s place = records format s then λ rs. pick rs place
 unfoldable pub appendAnswer : Format → Answer (List ℕ) → List ℕ → Answer ℕ
 appendAnswer format entry s =
     entry then λ r. records format s then λ rs.
-    demand (ltb (length rs) (format .most) && leb (lengthSaid s + 4 + format .size) (length s)) noRoom (Gives (length rs))
+    demand (ltb (length rs) (format .most) && leb (lengthSaid s + lengthSize + format .size) (length s)) noRoom (Gives (length rs))
 
 -- the buffer after it: the length counts the record, what followed the length stays, and the record fills the bytes after
 unfoldable pub appended : Format → List ℕ → List ℕ → List ℕ
 appended format r s =
-    bigBytes 4 (lengthSaid s + format .size) ++ take (lengthSaid s) (drop 4 s) ++ r
-    ++ drop (lengthSaid s + 4 + format .size) s
+    bigBytes lengthSize (lengthSaid s + format .size) ++ take (lengthSaid s) (drop lengthSize s) ++ r
+    ++ drop (lengthSaid s + lengthSize + format .size) s
 
 unfoldable pub appendBuffer : Format → Answer (List ℕ) → List ℕ → List ℕ
 appendBuffer format (Gives r) s = cond (given (appendAnswer format (Gives r) s)) (appended format r s) s
@@ -88,10 +98,10 @@ appendBuffer format (RefusedAt n place) s = s
 
 -- "new (writes an empty book)": it has no record
 unfoldable pub newAnswer : List ℕ → Answer ℕ
-newAnswer s = demand (leb 5 (length s)) noRoom (Gives 0)
+newAnswer s = demand (leb headSize (length s)) noRoom (Gives 0)
 
 unfoldable pub newBuffer : Format → List ℕ → List ℕ
-newBuffer format s = cond (given (newAnswer s)) (bigBytes 4 1 ++ format .version ∷ [] ++ drop 5 s) s
+newBuffer format s = cond (given (newAnswer s)) (bigBytes lengthSize 1 ++ format .version ∷ [] ++ drop headSize s) s
 
 -- ---- today's book
 
@@ -104,10 +114,9 @@ kindCode kU = 4
 kindCode kE = 5
 kindCode kV = 6
 
+-- the kind of a code, or 4
 unfoldable pub kindOfCode : ℕ → Answer Kind
-kindOfCode n =
-    cond (eqb n 1) (Gives kR) (cond (eqb n 2) (Gives kD) (cond (eqb n 3) (Gives kH)
-    (cond (eqb n 4) (Gives kU) (cond (eqb n 5) (Gives kE) (cond (eqb n 6) (Gives kV) (Refused notOfKind))))))
+kindOfCode code = kindBy kindCode notOfKind code
 
 -- a year in 16 bits, two's complement, and back
 abbrev pub twosComplement : ℤ → ℕ

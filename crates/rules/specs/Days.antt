@@ -70,9 +70,12 @@ pub data Order : Type 0 where
   Same : Order
   After : Order
 
+-- by two integers, or two naturals, and where they are equal by what follows
+abbrev pub byZ : ℤ → ℤ → Order → Order
+byZ a b next = cond (ltZ a b) Before (cond (ltZ b a) After next)
+
+abbrev pub byN : ℕ → ℕ → Order → Order
+byN a b next = cond (ltb a b) Before (cond (ltb b a) After next)
+
 unfoldable pub order : Fields → Fields → Order
-order f g =
-    cond (ltZ (f .year) (g .year)) Before
-    (cond (ltZ (g .year) (f .year)) After
-    (cond (ltb (packed f) (packed g)) Before
-    (cond (ltb (packed g) (packed f)) After Same)))
+order f g = byZ (f .year) (g .year) (byN (packed f) (packed g) Same)

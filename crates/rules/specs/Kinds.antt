@@ -4,8 +4,10 @@ use mathlib.Core.Bool.{Bool, true, false, cond, _&&_, _||_}
 use lib.Dec.{leb, eqb}
 use lib.IntN.{ℤ, pos}
 use Rattle.rules.specs.Words.{within, minus, fits16}
-use Rattle.rules.specs.Refusals.{Answer, Gives, demand, notOfKind}
+use Rattle.rules.specs.Refusals.{Answer, Gives, Refused, demand, notOfKind}
 use Rattle.rules.specs.Calendar.{monthLength}
+
+-- ---- the kinds
 
 -- R raw, D plain, H hourly, U uniform, E EU5, V Victoria 3
 pub data Kind : Type 0 where
@@ -15,6 +17,14 @@ pub data Kind : Type 0 where
   kU : Kind
   kE : Kind
   kV : Kind
+
+-- the kind that has this code under `codes`, or the refusal n
+abbrev pub kindBy : (Kind → ℕ) → ℕ → ℕ → Answer Kind
+kindBy codes n code =
+    cond (eqb code (codes kR)) (Gives kR) (cond (eqb code (codes kD)) (Gives kD) (cond (eqb code (codes kH)) (Gives kH)
+    (cond (eqb code (codes kU)) (Gives kU) (cond (eqb code (codes kE)) (Gives kE) (cond (eqb code (codes kV)) (Gives kV) (Refused n))))))
+
+-- ---- fields
 
 pub record Fields : Type 0 where
   pub year : ℤ
@@ -49,22 +59,24 @@ unfoldable pub ofKind : Kind → Fields → Bool
 ofKind k f =
     fits16 (f .year) && within 1 12 (f .month) && within 1 (daysIn k (f .month)) (f .day) && hourFits k (f .hour)
 
+-- ---- dates
+
 -- a date of the kind with these fields, or the refusal n
 unfoldable pub made : Kind → ℕ → Fields → Answer Fields
 made k n f = demand (ofKind k f) n (Gives f)
 
 -- "Field sets of R, H and V carry an hour; those of D, U and E carry none, and their hour is 0"
-abbrev pub setHour : Kind → ℕ → ℕ
-setHour kR h = h
-setHour kD h = 0
-setHour kH h = h
-setHour kU h = 0
-setHour kE h = 0
-setHour kV h = h
+abbrev pub fieldSetHour : Kind → ℕ → ℕ
+fieldSetHour kR h = h
+fieldSetHour kD h = 0
+fieldSetHour kH h = h
+fieldSetHour kU h = 0
+fieldSetHour kE h = 0
+fieldSetHour kV h = h
 
--- a date from a field set
+-- a date from a field set; where the set carries no hour, the one given is no part of it
 unfoldable pub fromFields : Kind → Fields → Answer Fields
-fromFields k f = made k notOfKind (withHour f (setHour k (f .hour)))
+fromFields k f = made k notOfKind (withHour f (fieldSetHour k (f .hour)))
 
 -- E: "23 becomes 22", where a text or a number is read
 abbrev pub settledHour : Kind → ℕ → ℕ
@@ -83,6 +95,8 @@ settled k n f = made k n (withHour f (settledHour k (f .hour)))
 abbrev pub inGameHour : ℕ → ℕ
 inGameHour h = h / 2 + 8
 
+-- ---- the packed word
+
 -- "Packed beside the year: month × 4096 + day × 128 + hour × 4"
 unfoldable pub packed : Fields → ℕ
 packed f = f .month * 4096 + f .day * 128 + f .hour * 4
@@ -94,6 +108,8 @@ unpacked year word = record { year = year; month = word / 4096; day = word / 128
 -- a date handed in, as its year and its word: one of the kind, its two low bits 0, or 4
 unfoldable pub handedIn : Kind → ℤ → ℕ → Answer Fields
 handedIn k year word = demand (eqb (word % 4) 0) notOfKind (made k notOfKind (unpacked year word))
+
+-- ---- least and greatest
 
 -- "Each kind owns its least and greatest date"
 abbrev pub leastHour : Kind → ℕ

@@ -3,30 +3,27 @@ use Prim.Native.Nat.{ℕ}
 use mathlib.Core.Bool.{Bool, true, false, cond, _&&_}
 use mathlib.Core.List.{List, [], _∷_, _++_, map}
 use lib.Dec.{leb, eqb}
-use lib.IntN.{ℤ, pos, negℤ}
+use lib.IntN.{ℤ, pos}
 use lib.ListN.{length}
-use Rattle.rules.specs.Words.{within, fits32, bytes}
+use Rattle.rules.specs.Words.{within, minus, fits32, byte, bytes}
 use Rattle.rules.specs.Refusals.{Answer, Gives, Refused, RefusedAt, _then_, demand, notText, unreadableLine}
-use Rattle.rules.specs.Kinds.{Kind, kR, kD, kH, kU, kE, kV, Fields}
+use Rattle.rules.specs.Kinds.{Kind, kR, kD, kH, kU, kE, kV, kindBy, Fields}
 use Rattle.rules.specs.Numbers.{readsNumbers, readNumber, guesses, guessNumber}
-use Rattle.rules.specs.Text.{minusByte, digits, afterDigits, decimalValue, atEnd, readText}
+use Rattle.rules.specs.Text.{digits, afterDigits, decimalValue, atEnd, readText}
 use Rattle.rules.specs.Spelling.{decimal, dotted, iso}
 
 -- ---- a line read: "kind letter, space, way, space, rest"
 
-abbrev pub letter : Kind → List ℕ
-letter kR = bytes "R"
-letter kD = bytes "D"
-letter kH = bytes "H"
-letter kU = bytes "U"
-letter kE = bytes "E"
-letter kV = bytes "V"
+abbrev pub letter : Kind → ℕ
+letter kR = byte "R"
+letter kD = byte "D"
+letter kH = byte "H"
+letter kU = byte "U"
+letter kE = byte "E"
+letter kV = byte "V"
 
--- the kind of a letter's byte: R 82, D 68, H 72, U 85, E 69, V 86
 unfoldable pub kindOfLetter : ℕ → Answer Kind
-kindOfLetter b =
-    cond (eqb b 82) (Gives kR) (cond (eqb b 68) (Gives kD) (cond (eqb b 72) (Gives kH)
-    (cond (eqb b 85) (Gives kU) (cond (eqb b 69) (Gives kE) (cond (eqb b 86) (Gives kV) (Refused unreadableLine))))))
+kindOfLetter b = kindBy letter unreadableLine b
 
 -- "Way t reads the rest as text; b and g read a number .. by full decoder or guess"
 pub data Way : Type 0 where
@@ -34,10 +31,10 @@ pub data Way : Type 0 where
   byNumber : Way
   byGuess : Way
 
--- the way of a letter's byte: t 116, b 98, g 103
 unfoldable pub wayOfLetter : ℕ → Answer Way
 wayOfLetter b =
-    cond (eqb b 116) (Gives byText) (cond (eqb b 98) (Gives byNumber) (cond (eqb b 103) (Gives byGuess) (Refused unreadableLine)))
+    cond (eqb b (byte "t")) (Gives byText)
+    (cond (eqb b (byte "b")) (Gives byNumber) (cond (eqb b (byte "g")) (Gives byGuess) (Refused unreadableLine)))
 
 -- "U b, U g, R g .. are 8": they are what those kinds lack
 abbrev pub hasWay : Kind → Way → Bool
@@ -57,21 +54,21 @@ readLine (a ∷ []) = Refused unreadableLine
 readLine (a ∷ b ∷ []) = Refused unreadableLine
 readLine (a ∷ b ∷ c ∷ []) = Refused unreadableLine
 readLine (a ∷ b ∷ c ∷ d ∷ rest) =
-    demand (eqb b 32 && eqb d 32) unreadableLine
+    demand (eqb b (byte " ") && eqb d (byte " ")) unreadableLine
     (kindOfLetter a then λ k. wayOfLetter c then λ w.
     demand (hasWay k w) unreadableLine (Gives (record { kind = k; way = w; rest = rest })))
 
 -- ---- what a line asks for
 
 -- "a number (perhaps `-`, 1 to 10 digits, fitting 32 bits; else 2)"
-unfoldable pub allDigits : (ℕ → ℤ) → List ℕ → Answer ℤ
-allDigits sign s =
+unfoldable pub digitsAsNumber : (ℕ → ℤ) → List ℕ → Answer ℤ
+digitsAsNumber sign s =
     demand (within 1 10 (length (digits s)) && atEnd (afterDigits s) && fits32 (sign (decimalValue (digits s)))) notText
     (Gives (sign (decimalValue (digits s))))
 
 unfoldable pub lineNumber : List ℕ → Answer ℤ
 lineNumber [] = Refused notText
-lineNumber (b ∷ s) = cond (eqb b minusByte) (allDigits (λ n. negℤ (pos n)) s) (allDigits pos (b ∷ s))
+lineNumber (b ∷ s) = cond (eqb b (byte "-")) (digitsAsNumber minus s) (digitsAsNumber pos (b ∷ s))
 
 unfoldable pub dateBy : Way → Kind → List ℕ → Answer Fields
 dateBy byText k rest = readText k rest
@@ -81,20 +78,20 @@ dateBy byGuess k rest = lineNumber rest then guessNumber k
 -- ---- what is printed
 
 -- "it writes the fixed word refused and its number after the letter"
-abbrev pub refusedText : List ℕ → ℕ → List ℕ
-refusedText front n = front ++ bytes " " ++ bytes "refused" ++ bytes " " ++ decimal n
+abbrev pub refusedText : ℕ → ℕ → List ℕ
+refusedText front n = front ∷ bytes " " ++ bytes "refused" ++ bytes " " ++ decimal n
 
 -- "letter, dotted text, ISO text"
 unfoldable pub dateText : Kind → Answer Fields → List ℕ
-dateText k (Gives f) = letter k ++ bytes " " ++ dotted k f ++ bytes " " ++ iso k f
+dateText k (Gives f) = letter k ∷ bytes " " ++ dotted k f ++ bytes " " ++ iso k f
 dateText k (Refused n) = refusedText (letter k) n
 dateText k (RefusedAt n place) = refusedText (letter k) n
 
 -- "`?` for 8"
 unfoldable pub requestText : Answer Line → List ℕ
 requestText (Gives l) = dateText (l .kind) (dateBy (l .way) (l .kind) (l .rest))
-requestText (Refused n) = refusedText (bytes "?") n
-requestText (RefusedAt n place) = refusedText (bytes "?") n
+requestText (Refused n) = refusedText (byte "?") n
+requestText (RefusedAt n place) = refusedText (byte "?") n
 
 -- "every output line .. ends in byte 10"
 abbrev pub lineEnd : List ℕ

@@ -73,7 +73,8 @@ guesses kV = true
 abbrev pub newYear : ℕ → Fields → Bool
 newYear h f = eqb (f .month) 1 && eqb (f .day) 1 && eqb (f .hour) h
 
--- what the guess needs of a number's fields, their hour as the number has it: E's is "tested before 23 becomes 22"
+-- what the guess needs of a number's fields: H's hour after 1 is added, every other as the number has it, so that E's is
+-- "tested before 23 becomes 22"
 abbrev pub guessed : Kind → Fields → Bool
 guessed kR f = false
 guessed kD f = ltZ (minus 100) (f .year) && eqb (f .hour) 0
@@ -91,8 +92,11 @@ guessNumber k s =
 -- ---- the way back
 
 -- ((year + 5000) × 365 + day of year) × 24 + h, for every year and every hour: what D and H write lies on it
+abbrev pub straightAt : ℤ → ℕ → ℕ → ℤ
+straightAt year doy h = pos 24 *ℤ (pos 365 *ℤ (year +ℤ pos 5000) +ℤ pos doy) +ℤ pos h
+
 unfoldable pub straight : Fields → ℕ → ℤ
-straight f h = pos 24 *ℤ (pos 365 *ℤ (f .year +ℤ pos 5000) +ℤ pos (dayOfYear (f .month) (f .day))) +ℤ pos h
+straight f h = straightAt (f .year) (dayOfYear (f .month) (f .day)) h
 
 -- "D and H write ((year + 5000) × 365 + day of year) × 24, H plus hour - 1"; no other kind writes a number
 abbrev pub writesNumbers : Kind → Bool

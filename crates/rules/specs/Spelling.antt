@@ -5,15 +5,15 @@ use mathlib.Core.List.{List, [], _∷_, _++_}
 use lib.Dec.{leb, ltb, eqb}
 use lib.IntN.{ℤ, pos, negsuc}
 use lib.ListN.{length, drop, replicate}
-use Rattle.rules.specs.Words.{bytes}
-use Rattle.rules.specs.Refusals.{Answer, Gives, Refused, RefusedAt, _then_, demand, bufferShort, notOfKind}
+use Rattle.rules.specs.Words.{byte, bytes}
+use Rattle.rules.specs.Refusals.{Answer, Gives, Refused, RefusedAt, _then_, demand, given, bufferShort, notOfKind}
 use Rattle.rules.specs.Kinds.{Kind, kR, kD, kH, kU, kE, kV, Fields, inGameHour}
 
 -- ---- numbers in decimal
 
 -- the byte of a digit
 abbrev pub digit : ℕ → ℕ
-digit d = 48 + d
+digit d = byte "0" + d
 
 -- n in decimal, with at most k digits before its last
 unfoldable pub decimalIn : ℕ → ℕ → List ℕ
@@ -42,7 +42,7 @@ isoYear (negsuc n) = bytes "-" ++ filled 3 (suc n)
 
 -- "as ISO, but a negative year has at least four digits after its sign"
 abbrev pub exchangeYear : ℤ → List ℕ
-exchangeYear (pos n) = filled 4 n
+exchangeYear (pos n) = isoYear (pos n)
 exchangeYear (negsuc n) = bytes "-" ++ filled 4 (suc n)
 
 -- ---- the dotted text
@@ -106,16 +106,12 @@ isoDateAlone k f = demand (hasIsoDate k) notOfKind (Gives (isoDate f))
 
 -- ---- a text in a lent buffer
 
--- whether the text fits
-abbrev pub roomFor : List ℕ → List ℕ → Bool
-roomFor text buffer = leb (length text) (length buffer)
-
 -- "its length is returned"
 unfoldable pub putAnswer : Answer (List ℕ) → List ℕ → Answer ℕ
-putAnswer a buffer = a then λ text. demand (roomFor text buffer) bufferShort (Gives (length text))
+putAnswer a buffer = a then λ text. demand (leb (length text) (length buffer)) bufferShort (Gives (length text))
 
 -- "It fills the first bytes of its buffer, later bytes stay"; where it is refused, "no buffer changes"
 unfoldable pub putBuffer : Answer (List ℕ) → List ℕ → List ℕ
-putBuffer (Gives text) buffer = cond (roomFor text buffer) (text ++ drop (length text) buffer) buffer
+putBuffer (Gives text) buffer = cond (given (putAnswer (Gives text) buffer)) (text ++ drop (length text) buffer) buffer
 putBuffer (Refused n) buffer = buffer
 putBuffer (RefusedAt n place) buffer = buffer

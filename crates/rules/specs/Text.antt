@@ -3,25 +3,19 @@ use Prim.Native.Nat.{ℕ, _+_, _*_, _-_, _^_}
 use mathlib.Core.Bool.{Bool, true, false, cond, not, _&&_, _||_}
 use mathlib.Core.List.{List, [], _∷_}
 use lib.Dec.{leb, eqb}
-use lib.IntN.{ℤ, pos, negℤ}
+use lib.IntN.{ℤ, pos}
 use lib.ListN.{length, getD}
-use Rattle.rules.specs.Words.{within, fits32}
+use Rattle.rules.specs.Words.{within, minus, fits32, byte}
 use Rattle.rules.specs.Refusals.{Answer, Gives, Refused, _then_, demand, tooLong, notText}
 use Rattle.rules.specs.Kinds.{Kind, kR, kD, kH, kU, kE, kV, Fields, settled}
 use Rattle.rules.specs.Numbers.{numberFields}
 
--- the bytes of `+`, `-` and `.`; "0" to "9" are 48 to 57
-abbrev pub plusByte : ℕ
-plusByte = 43
-
-abbrev pub minusByte : ℕ
-minusByte = 45
-
-abbrev pub dotByte : ℕ
-dotByte = 46
-
 abbrev pub isDigit : ℕ → Bool
-isDigit b = within 48 57 b
+isDigit b = within (byte "0") (byte "9") b
+
+-- the value of a digit's byte
+abbrev pub digitValue : ℕ → ℕ
+digitValue b = b - byte "0"
 
 -- a number, and the text after it
 pub record Read (A : Type 0) : Type 0 where
@@ -42,44 +36,44 @@ afterDigits (b ∷ s) = cond (isDigit b) (afterDigits s) (b ∷ s)
 -- the decimal value of digits: 0 of none
 unfoldable pub decimalValue : List ℕ → ℕ
 decimalValue [] = 0
-decimalValue (b ∷ s) = (b - 48) * 10 ^ length s + decimalValue s
+decimalValue (b ∷ s) = digitValue b * 10 ^ length s + decimalValue s
 
 -- the number that a text's first digits are, and what follows
 abbrev pub natural : List ℕ → Read ℕ
 natural s = record { value = decimalValue (digits s); rest = afterDigits s }
 
-abbrev pub signed : (ℕ → ℤ) → Read ℕ → Answer (Read ℤ)
-signed sign r = Gives (record { value = sign (r .value); rest = r .rest })
+-- the same with a sign
+abbrev pub signed : (ℕ → ℤ) → Read ℕ → Read ℤ
+signed sign r = record { value = sign (r .value); rest = r .rest }
 
 unfoldable pub leading : List ℕ → Answer (Read ℤ)
 leading [] = Refused notText
 leading (b ∷ s) =
-    cond (eqb b minusByte) (signed (λ n. negℤ (pos n)) (natural s))
-    (cond (eqb b plusByte) (signed pos (natural s))
-    (cond (isDigit b) (signed pos (natural (b ∷ s))) (Refused notText)))
+    cond (eqb b (byte "-")) (Gives (signed minus (natural s)))
+    (cond (eqb b (byte "+")) (Gives (signed pos (natural s)))
+    (cond (isDigit b) (Gives (signed pos (natural (b ∷ s)))) (Refused notText)))
 
 -- ---- the dotted part: "`.`, month in 1 or 2 digits, `.`, day in 1 or 2 digits, and perhaps `.` with an hour"
 
 -- after a first digit of value v: a second, or none
-unfoldable pub secondDigit : ℕ → List ℕ → Answer (Read ℕ)
-secondDigit v [] = Gives (record { value = v; rest = [] })
-secondDigit v (b ∷ s) =
-    cond (isDigit b) (Gives (record { value = v * 10 + (b - 48); rest = s })) (Gives (record { value = v; rest = b ∷ s }))
+unfoldable pub secondDigit : ℕ → List ℕ → Read ℕ
+secondDigit v [] = record { value = v; rest = [] }
+secondDigit v (b ∷ s) = cond (isDigit b) (record { value = v * 10 + digitValue b; rest = s }) (record { value = v; rest = b ∷ s })
 
 -- 1 or 2 digits
 unfoldable pub oneOrTwo : List ℕ → Answer (Read ℕ)
 oneOrTwo [] = Refused notText
-oneOrTwo (b ∷ s) = demand (isDigit b) notText (secondDigit (b - 48) s)
+oneOrTwo (b ∷ s) = demand (isDigit b) notText (Gives (secondDigit (digitValue b) s))
 
 -- a dot, and what follows it
 unfoldable pub afterDot : List ℕ → Answer (List ℕ)
 afterDot [] = Refused notText
-afterDot (b ∷ s) = demand (eqb b dotByte) notText (Gives s)
+afterDot (b ∷ s) = demand (eqb b (byte ".")) notText (Gives s)
 
 -- "an hour in 1 or 2 digits, the first not 0"
 abbrev pub notZeroFirst : List ℕ → Bool
 notZeroFirst [] = true
-notZeroFirst (b ∷ s) = not (eqb b 48)
+notZeroFirst (b ∷ s) = not (eqb b (byte "0"))
 
 -- "Nothing may follow"
 abbrev pub atEnd : List ℕ → Bool
@@ -120,7 +114,7 @@ numberText k s = demand (readsNumberTexts k && fits32 s) notText (numberFields n
 -- ---- D's own rules
 
 abbrev pub dotAt : ℕ → List ℕ → Bool
-dotAt place s = eqb (getD s place 0) dotByte
+dotAt place s = eqb (getD s place 0) (byte ".")
 
 -- "at length 8, at length 10 with dots at places 4 and 7 (from 0), and at length 9 with dots at 4 and 6 or 4 and 7"
 abbrev pub plusAllowed : List ℕ → Bool
@@ -131,7 +125,7 @@ plusAllowed s =
 
 abbrev pub startsWithPlus : List ℕ → Bool
 startsWithPlus [] = false
-startsWithPlus (b ∷ s) = eqb b plusByte
+startsWithPlus (b ∷ s) = eqb b (byte "+")
 
 -- "D also refuses lengths below 5 or above 12. D refuses a leading `+`, except" as above
 unfoldable pub shapeAllowed : Kind → List ℕ → Bool

@@ -1,7 +1,7 @@
 -- The few words that several sections of document 01 share: ranges, integers, quoted bytes, numbers in bytes. Assumes nothing.
 use Prim.Native.Nat.{ℕ, zero, suc, _+_, _*_, _-_, _/_, _%_, _^_}
 use Prim.Native.Char.{code}
-use Prim.Native.String.{String, [] as end, _∷_ as _then_}
+use Prim.Native.String.{String, [] as end, _∷_ as _next_}
 use mathlib.Core.Bool.{Bool, true, false, _&&_}
 use mathlib.Core.List.{List, [], _∷_, _++_}
 use lib.Dec.{leb}
@@ -35,7 +35,12 @@ fits32 = withinZ (minus 2147483648) (pos 2147483647)
 -- a quoted text as the list of its bytes
 abbrev pub bytes : String → List ℕ
 bytes end = []
-bytes (c then s) = code c ∷ bytes s
+bytes (c next s) = code c ∷ bytes s
+
+-- one quoted byte
+abbrev pub byte : String → ℕ
+byte end = 0
+byte (c next s) = code c
 
 -- the number that bytes stand for, big-endian
 unfoldable pub bigEndian : List ℕ → ℕ

@@ -6,7 +6,7 @@ use native.Mathlib.Omega.{arith}
 use lib.IntN.{ℤ, pos, negsuc, negℤ, subℕ, natAbs, _+ℤ_, _*ℤ_}
 use lib.Signed.{ltZ, leZ, nonNeg, quotZ, remZ, _≤ℤ_, _<ℤ_}
 use lib.Dec.{T, ltb, leb, leb·suc-suc, leb→le, ltb→lt}
-use native.Mathlib.Nat.{add-zero, zero-add, zero-div, zero-mod}
+use native.Mathlib.Nat.{add-zero, zero-add, zero-div, zero-mod, mul-sub}
 use borrow.Author.Tests.{ltb-true, ltb-false, leb-true, leb-false, lt-ltb, le-ltb, le-leb, lt-leb}
 use Rattle.sign.specs.Halves.{up, dn}
 
@@ -159,3 +159,21 @@ abs-is (negsuc n) = omega arith
 
 -- `simp ints` takes `up` and `dn` inside each operation; what is left is `omega`'s
 pub ruleset ints = (up-add, dn-add, up-sub, dn-sub, up-neg, dn-neg, up-mul, dn-mul, up-quot, dn-quot, up-rem, dn-rem, abs-is)
+
+-- ---- from three nested operations on, one operation at a time: an integer as a difference of naturals
+
+pub as-sub : (a : ℤ) → a ≡ subℕ (up a) (dn a)
+as-sub a = let o = one-side a in same _ _ (simp ints (omega arith))
+
+pub sub-add : (a b n : ℕ) → subℕ a b +ℤ pos n ≡ subℕ (a + n) b
+sub-add a b n = same _ _ (simp ints (omega arith))
+
+pub sub-mul : (k a b : ℕ) → pos k *ℤ subℕ a b ≡ subℕ (k * a) (k * b)
+sub-mul k a b = same _ _ (simp (ints, mul-sub) (omega arith))
+
+-- a number of its halves, of which one is 0
+pub sub-below : (n : ℕ) → subℕ 0 n ≡ negℤ (pos n)
+sub-below n = same _ _ (simp ints (omega arith))
+
+pub sub-above : (n : ℕ) → subℕ n 0 ≡ pos n
+sub-above n = same _ _ (simp ints (omega arith))

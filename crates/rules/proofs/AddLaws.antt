@@ -12,7 +12,7 @@ use Rattle.sign.specs.Halves.{up, dn}
 use Rattle.sign.proofs.Laws.{same, ints, one-side, le-true, yes-le, no-le}
 use Rattle.rules.specs.Words.{minus, withinZ}
 use Rattle.rules.specs.Refusals.{Answer, Gives, Refused, RefusedAt, _then_, demand, given, notOfKind}
-use Rattle.rules.specs.Kinds.{Kind, kR, kD, kH, kU, kE, kV, Fields, withHour, hourFits, ofKind}
+use Rattle.rules.specs.Kinds.{Kind, kR, kD, kH, kU, kE, kV, Fields, withHour, hourFits, fitsKind, ofKind}
 use Rattle.rules.specs.Numbers.{onDay}
 use Rattle.rules.specs.Days.{dayNumber, countsDays, difference, dayFields, summed, summedHour, addDays, startOfDay}
 use Rattle.rules.proofs.KindLaws.{Fit, fit, left, right}

@@ -5,7 +5,7 @@ use lib.IntN.{pos, negsuc}
 use Rattle.rules.specs.Words.{bytes}
 use Rattle.rules.specs.Refusals.{Answer, Refused}
 use Rattle.rules.specs.Calendar.{lengths, monthLength, sumFirst, firstDay, dayOfYear, walk, monthDay}
-use Rattle.rules.specs.Kinds.{kR, kD, kH, kU, kE, kV, Fields, ofKind, made, fromFields, settled, unpacked, handedIn}
+use Rattle.rules.specs.Kinds.{kR, kD, kH, kU, kE, kV, Fields, fitsKind, ofKind, made, fromFields, settled, unpacked, handedIn}
 use Rattle.rules.specs.Numbers.{numberFields, decoded, readNumber, guessNumber}
 use Rattle.rules.specs.Days.{dayNumber, dayFields, summed, addDays, startOfDay}
 use Rattle.rules.specs.Text.{digits, afterDigits, decimalValue, leading, secondDigit, oneOrTwo, afterDot, hourAfter, dottedPart, numberText, shapeAllowed, textFields, readText}
@@ -45,7 +45,7 @@ fields =
     ∷ []
 
 pub fields-hold : answers fields ≡ literals fields
-unfolding lengths monthLength ofKind made fromFields unpacked handedIn
+unfolding lengths monthLength fitsKind ofKind made fromFields unpacked handedIn
 fields-hold = refl
 
 -- D's lengths and its `+`; number texts; years; hours
@@ -101,7 +101,7 @@ texts =
     ∷ []
 
 pub texts-hold : answers texts ≡ literals texts
-unfolding lengths monthLength walk monthDay ofKind made settled numberFields
+unfolding lengths monthLength walk monthDay fitsKind ofKind made settled numberFields
     digits afterDigits decimalValue leading secondDigit oneOrTwo afterDot hourAfter dottedPart numberText shapeAllowed textFields readText
 texts-hold = refl
 
@@ -143,7 +143,7 @@ numbers =
     ∷ []
 
 pub numbers-hold : answers numbers ≡ literals numbers
-unfolding lengths monthLength walk monthDay ofKind made settled numberFields decoded readNumber guessNumber
+unfolding lengths monthLength walk monthDay fitsKind ofKind made settled numberFields decoded readNumber guessNumber
 numbers-hold = refl
 
 -- the ends of the day numbers; what a kind's hour becomes; the kinds that lack the operation

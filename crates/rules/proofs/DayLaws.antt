@@ -11,7 +11,7 @@ use Rattle.sign.proofs.Laws.{same, ints, one-side, yes-lt, no-lt, yes-le, no-le
 use Rattle.rules.specs.Words.{minus, withinZ, fits32}
 use Rattle.rules.specs.Refusals.{Answer, Gives, Refused, RefusedAt, _then_, demand, given}
 use Rattle.rules.specs.Calendar.{MonthDay, monthLength, monthDay, dayOfYear}
-use Rattle.rules.specs.Kinds.{Kind, kR, kD, kH, kU, kE, kV, Fields, withHour, hourFits, ofKind}
+use Rattle.rules.specs.Kinds.{Kind, kR, kD, kH, kU, kE, kV, Fields, withHour, hourFits, fitsKind, ofKind}
 use Rattle.rules.specs.Numbers.{onDay}
 use Rattle.rules.specs.Days.{dayNumberAt, dayNumber, countsDays, difference, dayFields, summed, summedHour, addDays}
 use Rattle.rules.proofs.CalendarLaws.{there-and-back, back-and-there, day-of-year-small, IsDay, is-day}

@@ -11,7 +11,7 @@ use Rattle.sign.specs.Halves.{up, dn}
 use Rattle.sign.proofs.Laws.{one-side, le-true, yes-le}
 use Rattle.rules.specs.Words.{within, minus, fits16}
 use Rattle.rules.specs.Calendar.{monthLength}
-use Rattle.rules.specs.Kinds.{Kind, kR, kD, kH, kU, kE, kV, Fields, daysIn, hourFits, ofKind}
+use Rattle.rules.specs.Kinds.{Kind, kR, kD, kH, kU, kE, kV, Fields, daysIn, hourFits, fitsKind, ofKind}
 
 -- ---- what a date of a kind has, by name
 
@@ -41,15 +41,15 @@ pub yes-within : (lo hi n : ℕ) → lo ≤ n → n ≤ hi → within lo hi n �
 yes-within lo hi n a b = rw (le-leb lo n a, le-leb n hi b)
 
 pub fit : (k : Kind) (f : Fields) → ofKind k f ≡ true → Fit k f
-unfolding ofKind
+unfolding fitsKind ofKind
 fit k f h =
-    let yearMonth = fits16 (f .year) && within 1 12 (f .month) in
-    let inMonth = within 1 (daysIn k (f .month)) (f .day) in
-    let ymd = left (yearMonth && inMonth) (hourFits k (f .hour)) h in
-    let ym = left yearMonth inMonth ymd in
-    let y = left (fits16 (f .year)) (within 1 12 (f .month)) ym in
-    let m = right (fits16 (f .year)) (within 1 12 (f .month)) ym in
-    let d = right yearMonth inMonth ymd in
+    let month = within 1 12 (f .month) in
+    let day = within 1 (daysIn k (f .month)) (f .day) in
+    let y = left (fits16 (f .year)) (fitsKind k (f .month) (f .day) (f .hour)) h in
+    let mdh = right (fits16 (f .year)) (fitsKind k (f .month) (f .day) (f .hour)) h in
+    let md = left (month && day) (hourFits k (f .hour)) mdh in
+    let m = left month day md in
+    let d = right month day md in
     let a = le-true (minus 32768) (f .year) (left (leZ (minus 32768) (f .year)) _ y) in
     let b = le-true (f .year) (pos 32767) (right (leZ (minus 32768) (f .year)) _ y) in
     record {
@@ -59,11 +59,11 @@ fit k f h =
       month-high = high 1 12 (f .month) m;
       day-low = low 1 (daysIn k (f .month)) (f .day) d;
       day-high = high 1 (daysIn k (f .month)) (f .day) d;
-      hour-fits = right (yearMonth && inMonth) (hourFits k (f .hour)) h;
+      hour-fits = right (month && day) (hourFits k (f .hour)) mdh;
     }
 
 pub fit-back : (k : Kind) (f : Fields) → Fit k f → ofKind k f ≡ true
-unfolding ofKind
+unfolding fitsKind ofKind
 fit-back k f t =
     rw (
       yes-le (minus 32768) (f .year) (omega arith),

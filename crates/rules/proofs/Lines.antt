@@ -4,7 +4,7 @@ use mathlib.Core.Path.{_≡_, refl}
 use mathlib.Core.List.{List, [], _∷_, _++_}
 use Rattle.rules.specs.Words.{bytes}
 use Rattle.rules.specs.Calendar.{lengths, monthLength, walk, monthDay}
-use Rattle.rules.specs.Kinds.{ofKind, made, settled}
+use Rattle.rules.specs.Kinds.{fitsKind, ofKind, made, settled}
 use Rattle.rules.specs.Numbers.{numberFields, decoded, readNumber, guessNumber}
 use Rattle.rules.specs.Text.{digits, afterDigits, decimalValue, leading, secondDigit, oneOrTwo, afterDot, hourAfter, dottedPart, numberText, shapeAllowed, textFields, readText}
 use Rattle.rules.specs.Spelling.{decimalIn, decimal, filled, dottedHour, dotted, isoMonthDay, isoHour, isoDate, iso}
@@ -57,14 +57,14 @@ oneLine =
     ∷ []
 
 pub listings-hold : answers listings ≡ literals listings
-unfolding lengths monthLength walk monthDay ofKind made settled numberFields decoded readNumber guessNumber
+unfolding lengths monthLength walk monthDay fitsKind ofKind made settled numberFields decoded readNumber guessNumber
     digits afterDigits decimalValue leading secondDigit oneOrTwo afterDot hourAfter dottedPart numberText shapeAllowed textFields readText
     decimalIn decimal filled dottedHour dotted isoMonthDay isoHour isoDate iso
     kindOfLetter wayOfLetter readLine digitsAsNumber lineNumber dateBy dateText requestText lineOutput onto lines joined listing
 listings-hold = refl
 
 pub one-line-holds : answers oneLine ≡ literals oneLine
-unfolding lengths monthLength walk monthDay ofKind made settled numberFields decoded readNumber guessNumber
+unfolding lengths monthLength walk monthDay fitsKind ofKind made settled numberFields decoded readNumber guessNumber
     digits afterDigits decimalValue leading secondDigit oneOrTwo afterDot hourAfter dottedPart numberText shapeAllowed textFields readText
     decimalIn decimal filled dottedHour dotted isoMonthDay isoHour isoDate iso
     kindOfLetter wayOfLetter readLine digitsAsNumber lineNumber dateBy dateText requestText lineOutput

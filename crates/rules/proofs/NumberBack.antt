@@ -13,7 +13,7 @@ use Rattle.sign.proofs.Laws.{same, ints, one-side, yes-le, no-le}
 use Rattle.rules.specs.Words.{minus}
 use Rattle.rules.specs.Refusals.{Answer, Gives, Refused, _then_, demand, notNumber}
 use Rattle.rules.specs.Calendar.{MonthDay, lengths, monthLength, walk, monthDay, sumFirst, firstDay, dayOfYear}
-use Rattle.rules.specs.Kinds.{Kind, kR, kD, kH, kU, kE, kV, Fields, withHour, ofKind, made, settled, settledHour, hourFits, leastHour}
+use Rattle.rules.specs.Kinds.{Kind, kR, kD, kH, kU, kE, kV, Fields, withHour, fitsKind, ofKind, made, settled, settledHour, hourFits, leastHour}
 use Rattle.rules.specs.Numbers.{onDay, numberFields, readsNumbers, decodedHour, decoded, readNumber, newYear, straight, writesNumbers, writtenHour, writeNumber}
 use Rattle.rules.proofs.CalendarLaws.{back-and-there, day-of-year-small}
 use Rattle.rules.proofs.KindLaws.{Fit, fit, month-fits, keepsMonths, left, right, low, high}

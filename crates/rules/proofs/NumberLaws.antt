@@ -12,7 +12,7 @@ use Rattle.sign.proofs.Laws.{same, ints, one-side, yes-le, no-le, le-true, yes-
 use Rattle.rules.specs.Words.{minus, withinZ, eqZ, fits16}
 use Rattle.rules.specs.Refusals.{Answer, Gives, Refused, RefusedAt, _then_, demand, given, notNumber, notOfKind}
 use Rattle.rules.specs.Calendar.{monthDay, dayOfYear}
-use Rattle.rules.specs.Kinds.{Kind, kR, kD, kH, kU, kE, kV, Fields, ofKind, made, settled, hourFits, leastHour}
+use Rattle.rules.specs.Kinds.{Kind, kR, kD, kH, kU, kE, kV, Fields, fitsKind, ofKind, made, settled, hourFits, leastHour}
 use Rattle.rules.specs.Numbers.{onDay, hourOf, dayOf, yearOf, hasFields, numberFields, readsNumbers, decodedHour, decoded, readNumber, guesses, guessed, guessNumber, newYear, straight, writesNumbers, writtenHour, writeNumber}
 use Rattle.rules.proofs.KindLaws.{Fit, fit, left, right, low, high}
 

@@ -12,7 +12,7 @@ use Rattle.sign.specs.Halves.{up, dn}
 use Rattle.sign.proofs.Laws.{one-side, lt-true, lt-false, no-lt, yes-lt}
 use Rattle.rules.specs.Words.{minus}
 use Rattle.rules.specs.Calendar.{lengths, monthLength}
-use Rattle.rules.specs.Kinds.{Kind, kR, kD, kH, kU, kE, kV, Fields, daysIn, hourFits, ofKind, inGameHour, packed, leastHour, greatestHour, least, greatest}
+use Rattle.rules.specs.Kinds.{Kind, kR, kD, kH, kU, kE, kV, Fields, daysIn, hourFits, fitsKind, ofKind, inGameHour, packed, leastHour, greatestHour, least, greatest}
 use Rattle.rules.specs.Days.{Order, Before, Same, After, byZ, byN, order}
 use Rattle.rules.proofs.CalendarLaws.{length-small}
 use Rattle.rules.proofs.KindLaws.{Fit, fit, fit-back, low, high}
@@ -124,7 +124,7 @@ order-is j k f g p q =
     (packed-order f g (day-small j f p) (day-small k g q) (hour-small j f p) (hour-small k g q))
 
 pub least-is-date : (k : Kind) → ofKind k (least k) ≡ true
-unfolding ofKind least monthLength lengths
+unfolding fitsKind ofKind least monthLength lengths
 least-is-date kR = refl
 least-is-date kD = refl
 least-is-date kH = refl
@@ -133,7 +133,7 @@ least-is-date kE = refl
 least-is-date kV = refl
 
 pub greatest-is-date : (k : Kind) → ofKind k (greatest k) ≡ true
-unfolding ofKind greatest monthLength lengths
+unfolding fitsKind ofKind greatest monthLength lengths
 greatest-is-date kR = refl
 greatest-is-date kD = refl
 greatest-is-date kH = refl

@@ -7,7 +7,7 @@ use borrow.Author.Tests.{eq-eqb, eqb-true}
 use lib.Dec.{T, eqb}
 use lib.IntN.{ℤ}
 use Rattle.rules.specs.Refusals.{Answer, Gives, demand, notOfKind}
-use Rattle.rules.specs.Kinds.{Kind, Fields, ofKind, made, packed, unpacked, handedIn}
+use Rattle.rules.specs.Kinds.{Kind, Fields, fitsKind, ofKind, made, packed, unpacked, handedIn}
 use Rattle.rules.proofs.KindLaws.{Fit, fit}
 use Rattle.rules.proofs.OrderLaws.{day-small, hour-small}
 

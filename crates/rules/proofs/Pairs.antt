@@ -5,7 +5,7 @@ use lib.IntN.{pos, negsuc}
 use Rattle.rules.specs.Words.{bytes}
 use Rattle.rules.specs.Refusals.{Answer, Refused}
 use Rattle.rules.specs.Calendar.{lengths, monthLength, sumFirst, firstDay, dayOfYear, walk, monthDay}
-use Rattle.rules.specs.Kinds.{kR, kD, kH, kE, Fields, ofKind, made, fromFields, settled}
+use Rattle.rules.specs.Kinds.{kR, kD, kH, kE, Fields, fitsKind, ofKind, made, fromFields, settled}
 use Rattle.rules.specs.Numbers.{numberFields, decoded, readNumber, guessNumber}
 use Rattle.rules.specs.Days.{dayNumber, dayFields, summed, addDays}
 use Rattle.rules.specs.Text.{digits, afterDigits, decimalValue, leading, secondDigit, oneOrTwo, afterDot, hourAfter, dottedPart, numberText, shapeAllowed, textFields, readText}
@@ -42,7 +42,7 @@ pairs =
     ∷ []
 
 pub pairs-hold : answers pairs ≡ literals pairs
-unfolding lengths monthLength sumFirst firstDay dayOfYear walk monthDay ofKind made fromFields settled
+unfolding lengths monthLength sumFirst firstDay dayOfYear walk monthDay fitsKind ofKind made fromFields settled
     numberFields decoded readNumber guessNumber dayNumber dayFields summed addDays
     digits afterDigits decimalValue leading secondDigit oneOrTwo afterDot hourAfter dottedPart numberText shapeAllowed textFields readText
 pairs-hold = refl

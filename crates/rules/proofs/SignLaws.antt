@@ -12,7 +12,7 @@ use Rattle.sign.proofs.Laws.{same, ints, one-side, yes-lt, no-lt}
 use Rattle.rules.specs.Words.{eqZ}
 use Rattle.rules.specs.Refusals.{Answer, Gives, _then_, demand}
 use Rattle.rules.specs.Calendar.{monthLength, firstDay, dayOfYear}
-use Rattle.rules.specs.Kinds.{Kind, kR, kD, kH, kU, kE, kV, Fields, withHour, hourFits, ofKind}
+use Rattle.rules.specs.Kinds.{Kind, kR, kD, kH, kU, kE, kV, Fields, withHour, hourFits, fitsKind, ofKind}
 use Rattle.rules.specs.Days.{dayNumberAt, dayNumber, countsDays, difference, Order, Before, Same, After, byZ, byN, order}
 use Rattle.rules.proofs.CalendarLaws.{months-follow, day-of-year-small}
 use Rattle.rules.proofs.KindLaws.{Fit, fit, fit-back, month-fits}

@@ -7,7 +7,7 @@ use lib.ListN.{replicate}
 use Rattle.rules.specs.Words.{bytes, bigEndian, bigBytes}
 use Rattle.rules.specs.Refusals.{Answer, Gives, Refused, RefusedAt}
 use Rattle.rules.specs.Calendar.{lengths, monthLength, sumFirst, firstDay, dayOfYear}
-use Rattle.rules.specs.Kinds.{kR, kD, kH, kU, kE, kV, inGameHour, ofKind, made, packed, unpacked, handedIn}
+use Rattle.rules.specs.Kinds.{kR, kD, kH, kU, kE, kV, inGameHour, fitsKind, ofKind, made, packed, unpacked, handedIn}
 use Rattle.rules.specs.Numbers.{straight, writeNumber}
 use Rattle.rules.specs.Days.{dayNumber, difference}
 use Rattle.rules.specs.Spelling.{decimalIn, decimal, filled, dottedHour, dotted, isoMonthDay, isoHour, isoDate, iso, exchange, isoDateAlone, putAnswer, putBuffer}
@@ -70,7 +70,7 @@ books =
     ∷ []
 
 pub books-hold : answers books ≡ literals books
-unfolding bigEndian bigBytes lengths monthLength ofKind made packed unpacked handedIn lengthSaid pieces recordsIn firstBad allSound records
+unfolding bigEndian bigBytes lengths monthLength fitsKind ofKind made packed unpacked handedIn lengthSaid pieces recordsIn firstBad allSound records
     appendAnswer appended appendBuffer newAnswer newBuffer kindOfCode yearOfTwos entryBytes entryOf entryFor
 books-hold = refl
 
@@ -102,7 +102,7 @@ counts =
     ∷ []
 
 pub counts-hold : answers counts ≡ literals counts
-unfolding bigEndian bigBytes lengths monthLength ofKind made packed unpacked handedIn lengthSaid pieces recordsIn firstBad allSound records
+unfolding bigEndian bigBytes lengths monthLength fitsKind ofKind made packed unpacked handedIn lengthSaid pieces recordsIn firstBad allSound records
     check appendAnswer appended appendBuffer newAnswer newBuffer kindOfCode yearOfTwos entryBytes entryOf entryFor putAnswer
 counts-hold = refl
 

@@ -4,7 +4,7 @@ use mathlib.Core.Bool.{Bool, true, false, cond, _&&_, _||_}
 use lib.Dec.{leb, eqb}
 use lib.IntN.{ℤ, pos}
 use Rattle.rules.specs.Words.{within, minus, fits16}
-use Rattle.rules.specs.Refusals.{Answer, Gives, Refused, demand, notOfKind}
+use Rattle.rules.specs.Refusals.{Answer, Gives, Refused, _then_, demand, notOfKind}
 use Rattle.rules.specs.Calendar.{monthLength}
 
 -- ---- the kinds
@@ -54,10 +54,13 @@ hourFits kU h = eqb h 0
 hourFits kE h = within 0 22 h
 hourFits kV h = eqb h 0 || eqb h 6 || eqb h 12 || eqb h 18
 
--- whether these are the fields of a date of the kind
+-- whether month, day and hour are those of a date of the kind
+unfoldable pub fitsKind : Kind → ℕ → ℕ → ℕ → Bool
+fitsKind k month day hour = within 1 12 month && within 1 (daysIn k month) day && hourFits k hour
+
+-- whether these are the fields of a date of the kind: "year -32768 to 32767"
 unfoldable pub ofKind : Kind → Fields → Bool
-ofKind k f =
-    fits16 (f .year) && within 1 12 (f .month) && within 1 (daysIn k (f .month)) (f .day) && hourFits k (f .hour)
+ofKind k f = fits16 (f .year) && fitsKind k (f .month) (f .day) (f .hour)
 
 -- ---- dates
 
@@ -108,6 +111,17 @@ unpacked year word = record { year = year; month = word / 4096; day = word / 128
 -- a date handed in, as its year and its word: one of the kind, its two low bits 0, or 4
 unfoldable pub handedIn : Kind → ℤ → ℕ → Answer Fields
 handedIn k year word = demand (eqb (word % 4) 0) notOfKind (made k notOfKind (unpacked year word))
+
+-- a date as it is stored: its year, and its word beside it
+pub record Stored : Type 0 where
+  pub year : ℤ
+  pub word : ℕ
+
+abbrev pub stored : Fields → Stored
+stored f = record { year = f .year; word = packed f }
+
+abbrev pub store : Answer Fields → Answer Stored
+store a = a then λ f. Gives (stored f)
 
 -- ---- least and greatest
 

@@ -1,6 +1,6 @@
 -- Signed numbers and the bits that a local holds of them, once for every width. Assumes nothing.
 use mathlib.Core.Path.{_≡_, refl, ap, sym, _∙_, subst}
-use mathlib.Core.Bool.{true, false}
+use mathlib.Core.Bool.{Bool, true, false}
 use Prim.Native.Nat.{ℕ, suc, _+_, _-_, _^_, _≤_, _<_, zero-le}
 use native.Mathlib.Nat.{lt-of-le-of-lt}
 use native.Mathlib.Omega.{arith}
@@ -91,3 +91,8 @@ fits-tells w (negsuc n) f = record { up-less = lt-of-le-of-lt zero-le (f .sfits)
 -- two signed numbers of the same bits, as `a == b` compares them, are the same
 pub same-bits : (w : Width) {a b : ℤ} → SFits w a → SFits w b → ofZ w a ≡ ofZ w b → a ≡ b
 same-bits w {a} {b} f g e = sym (toZ-ofZ w a f) ∙ ap (toZ w) e ∙ toZ-ofZ w b g
+
+-- what a test `a < b` of two signed locals decides
+pub less-held : (w : Width) (a b : ℤ) {t : Bool} → mag a < 2 ^ hbits w → mag b < 2 ^ hbits w →
+    ltZ (toZ w (ofZ w a)) (toZ w (ofZ w b)) ≡ t → ltZ a b ≡ t
+less-held w a b p q e = rw (held w {z = a} p, held w {z = b} q) at e

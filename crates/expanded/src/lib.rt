@@ -1,0 +1,207 @@
+// What the six kinds share: the kind, a date's fields, its packed word, and the one maker and the one opener over the kind.
+ghost use mathlib.Core.Path.{_≡_};
+ghost use Prim.Native.Nat.{ℕ};
+ghost use Rattle.rules.specs.Kinds.{daysIn, hourFits, fitsKind, made, settledHour, settled, handedIn, store};
+ghost use Rattle.rules.specs.Refusals.{Gives, _then_, given};
+ghost use Rattle.rules.specs.Days.{Same, byZ, byN, order};
+ghost use Rattle.expanded.specs.Views.{kindOf, answer, opened, ordered};
+
+// R raw, D plain, H hourly, U uniform, E EU5, V Victoria 3.
+pub enum Kind {
+    Raw,
+    Date,
+    Hour,
+    Uniform,
+    Eu5,
+    Vic3,
+}
+
+// A date where each component is a full data type.
+pub struct ExpandedRawDate {
+    pub year: i16,
+    pub month: u8,
+    pub day: u8,
+    pub hour: u8,
+}
+
+// A date as it is stored: the year, and month × 4096 + day × 128 + hour × 4 beside it. Any bits can be handed in.
+pub struct Packed {
+    pub year: i16,
+    pub word: u16,
+}
+
+// A date, or none of that kind.
+pub enum Made {
+    Date(Packed),
+    None,
+}
+
+// The fields of a date handed in, or none of that kind.
+pub enum Opened {
+    Fields(ExpandedRawDate),
+    NotOfKind,
+}
+
+// The order of two dates handed in, or that one of them is not of the kind.
+pub enum Ordered {
+    Before,
+    Same,
+    After,
+    NotOfKind,
+}
+
+// The greatest day of a month.
+fn days_in(kind: Kind, month: u8) -> u8
+    ensures { λ r. ⌜ r ≡ daysIn (kindOf kind) month ⌝ }
+{
+    match kind {
+        Kind::Raw => 31,
+        Kind::Date => julian::month_length(month),
+        Kind::Hour => julian::month_length(month),
+        Kind::Uniform => 30,
+        Kind::Eu5 => julian::month_length(month),
+        Kind::Vic3 => julian::month_length(month),
+    }
+}
+
+// The hours of a kind.
+fn hour_fits(kind: Kind, hour: u8) -> bool
+    ensures { λ r. ⌜ r ≡ hourFits (kindOf kind) hour ⌝ }
+{
+    match kind {
+        Kind::Raw => hour <= 24,
+        Kind::Date => hour == 0,
+        Kind::Hour => 1 <= hour && hour <= 24,
+        Kind::Uniform => hour == 0,
+        Kind::Eu5 => hour <= 22,
+        Kind::Vic3 => hour % 6 == 0 && hour <= 18,
+    }
+}
+
+// Whether month, day and hour are those of a date of the kind.
+fn fits_kind(kind: Kind, month: u8, day: u8, hour: u8) -> bool
+    ensures { λ r. ⌜ r ≡ fitsKind (kindOf kind) month day hour ⌝ }
+{
+    if month < 1 {
+        return false;
+    }
+    if 12 < month {
+        return false;
+    }
+    if day < 1 {
+        return false;
+    }
+    if days_in(kind, month) < day {
+        return false;
+    }
+    hour_fits(kind, hour)
+}
+
+// A date of the kind with these fields, or none.
+pub fn make(kind: Kind, year: i16, month: u8, day: u8, hour: u8) -> Made
+    ensures { λ r. ⌜ ((n : ℕ) → answer n r ≡ store (made (kindOf kind) n (record { year = year; month = month; day = day; hour = hour }))) ⌝ }
+{
+    if fits_kind(kind, month, day, hour) {
+        let word = month as u16 * 4096 + day as u16 * 128 + hour as u16 * 4;
+        Made::Date(Packed { year, word })
+    } else {
+        Made::None
+    }
+}
+
+// E's hour 23 becomes 22.
+fn settled_hour(kind: Kind, hour: u8) -> u8
+    ensures { λ r. ⌜ r ≡ settledHour (kindOf kind) hour ⌝ }
+{
+    match kind {
+        Kind::Raw => hour,
+        Kind::Date => hour,
+        Kind::Hour => hour,
+        Kind::Uniform => hour,
+        Kind::Eu5 => {
+            if hour == 23 {
+                return 22;
+            }
+            hour
+        }
+        Kind::Vic3 => hour,
+    }
+}
+
+// A date of the kind with the fields that a text or a number has, or none.
+pub fn settle(kind: Kind, year: i16, month: u8, day: u8, hour: u8) -> Made
+    ensures { λ r. ⌜ ((n : ℕ) → answer n r ≡ store (settled (kindOf kind) n (record { year = year; month = month; day = day; hour = hour }))) ⌝ }
+{
+    make(kind, year, month, day, settled_hour(kind, hour))
+}
+
+// The fields of a date handed in. Every operation on a date goes through here first.
+pub fn unpack(kind: Kind, date: Packed) -> Opened
+    ensures { λ r. ⌜ opened r ≡ handedIn (kindOf kind) (date .year) (date .word) ⌝ }
+{
+    let word = date.word;
+    if 0 < word % 4 {
+        return Opened::NotOfKind;
+    }
+    let month = (word / 4096) as u8;
+    let day = (word / 128 % 32) as u8;
+    let hour = (word / 4 % 32) as u8;
+    if fits_kind(kind, month, day, hour) {
+        let year = date.year;
+        Opened::Fields(ExpandedRawDate {
+            year,
+            month,
+            day,
+            hour,
+        })
+    } else {
+        Opened::NotOfKind
+    }
+}
+
+// Whether a date handed in is one of the kind.
+pub fn is_of_kind(kind: Kind, date: Packed) -> bool
+    ensures { λ r. ⌜ r ≡ given (handedIn (kindOf kind) (date .year) (date .word)) ⌝ }
+{
+    let opened = unpack(kind, date);
+    match opened {
+        Opened::Fields(_) => true,
+        Opened::NotOfKind => false,
+    }
+}
+
+// Year, then packed word.
+fn order_of(first: Packed, second: Packed) -> Ordered
+    ensures { λ r. ⌜ ordered r ≡ Gives (byZ (first .year) (second .year) (byN (first .word) (second .word) Same)) ⌝ }
+{
+    let a = first.year;
+    let b = second.year;
+    if a < b {
+        return Ordered::Before;
+    }
+    if b < a {
+        return Ordered::After;
+    }
+    let v = first.word;
+    let w = second.word;
+    if v < w {
+        return Ordered::Before;
+    }
+    if w < v {
+        return Ordered::After;
+    }
+    Ordered::Same
+}
+
+// The order of two dates of one kind.
+pub fn compare(kind: Kind, first: Packed, second: Packed) -> Ordered
+    ensures { λ r. ⌜ ordered r ≡ (handedIn (kindOf kind) (first .year) (first .word) then λ f. handedIn (kindOf kind) (second .year) (second .word) then λ g. Gives (order f g)) ⌝ }
+{
+    if is_of_kind(kind, first) {
+        if is_of_kind(kind, second) {
+            return order_of(first, second);
+        }
+        return Ordered::NotOfKind;
+    }
+    Ordered::NotOfKind
+}

@@ -76,7 +76,7 @@ unfolding dayOfYear firstDay sumFirst
 new-year-day = refl
 
 -- the kinds that write numbers read them, and keep the months' lengths
-writer : (k : Kind) → writesNumbers k ≡ true → (readsNumbers k ≡ true) × (keepsMonths k ≡ true)
+pub writer : (k : Kind) → writesNumbers k ≡ true → (readsNumbers k ≡ true) × (keepsMonths k ≡ true)
 writer kR w = absurd (subst T (sym w) tt)
 writer kD w = (refl, refl)
 writer kH w = (refl, refl)

@@ -160,7 +160,10 @@ pub fields-at : (r : ℕ) (s y : ℤ) (d h : ℕ) → Stands (up s) (dn s) → y
 unfolding numberFields
 fields-at r s y d h t p q u = rw (stands-from s t) (λ i. Gives (onDay (p i) (q i) (u i)))
 
--- and none of a negative number that is no multiple of 8760
-pub fields-refused : (r : ℕ) (s : ℤ) → (dn s % 8760 ≡ 0 → ⊥) → numberFields r s ≡ Refused r
+-- and none of any other number, such as a negative one that is no multiple of 8760
+pub no-fields : (r : ℕ) (s : ℤ) → (Stands (up s) (dn s) → ⊥) → numberFields r s ≡ Refused r
 unfolding numberFields
-fields-refused r s h = demand-false (hasFields s) r _ (λ e. let t = stands-tells s e in h (omega arith))
+no-fields r s h = demand-false (hasFields s) r _ (λ e. h (stands-tells s e))
+
+pub fields-refused : (r : ℕ) (s : ℤ) → (dn s % 8760 ≡ 0 → ⊥) → numberFields r s ≡ Refused r
+fields-refused r s h = no-fields r s (λ t. h (omega arith))

@@ -1,0 +1,94 @@
+-- The fields of a number, over its two naturals; then the full decoder and the guess, by their tests. Assumes nothing.
+use mathlib.Core.Path.{_≡_, refl, _∙_, sym}
+use mathlib.Core.Bool.{Bool, true, false}
+use Prim.Native.Nat.{ℕ, _+_, _/_, _%_, _≤_, _<_}
+use native.Mathlib.Omega.{arith}
+use lib.IntN.{ℤ, natAbs, subℕ}
+use Rattle.sign.specs.Halves.{up, dn, Halved}
+use Rattle.sign.proofs.Laws.{same, ints}
+use Rattle.rules.specs.Refusals.{Answer, Gives, Refused, _then_, demand, given, notNumber, notOfKind}
+use Rattle.rules.specs.Calendar.{monthLength, monthDay, dayOfYear}
+use Rattle.rules.specs.Kinds.{Kind, Fields, handedIn}
+use Rattle.rules.specs.Numbers.{onDay, hourOf, dayOf, yearOf, numberFields, readsNumbers, decoded, readNumber, guesses, guessed, guessNumber, straightAt, straight, writesNumbers, writtenHour, writeNumber}
+use Rattle.rules.proofs.KindLaws.{Fit, fit, month-fits}
+use Rattle.rules.proofs.PackLaws.{Handed, handed-tells}
+use Rattle.rules.proofs.NumberBack.{writer}
+use Rattle.expanded.proofs.Laws.{handed-by}
+use Rattle.rules.proofs.NumberLaws.{Stands, fields-at, no-fields}
+
+module _ (n : ℕ) {s : ℤ} {u d : ℕ} (h : Halved 2147483647 s u d) where
+  pub none : (Stands u d → ⊥) → Refused n ≡ numberFields n s
+  none never = sym (no-fields n s (λ t. never (rw (h .up-is, h .dn-is) at t)))
+
+  pub some : {y : ℤ} {a b : ℕ} → Stands u d → y ≡ subℕ (u / 8760) (d / 8760 + 5000) → a ≡ monthDay (u / 24 % 365) .month → b ≡ monthDay (u / 24 % 365) .day →
+      _≡_ {A = Answer Fields} (Gives (record { year = y; month = a; day = b; hour = u % 24 })) (numberFields n s)
+  some t y-is a-is b-is =
+      (λ i. Gives (record { year = y-is i; month = a-is i; day = b-is i; hour = u % 24 }))
+      ∙ sym (fields-at n s (subℕ (u / 8760) (d / 8760 + 5000)) (u / 24 % 365) (u % 24) (rw (h .up-is, h .dn-is) t) year day hour)
+    where
+      year : yearOf s ≡ subℕ (u / 8760) (d / 8760 + 5000)
+      year = same _ _ (simp (ints, h .up-is, h .dn-is) (omega arith))
+
+      day : natAbs (dayOf s) ≡ u / 24 % 365
+      day = simp (ints, h .up-is, h .dn-is) (omega arith)
+
+      hour : natAbs (hourOf s) ≡ u % 24
+      hour = simp (ints, h .up-is, h .dn-is) (omega arith)
+
+-- ---- the full decoder and the guess, by their tests
+
+module _ (k : Kind) (s : ℤ) where
+  pub read-lacks : readsNumbers k ≡ false → readNumber k s ≡ Refused notOfKind
+  unfolding readNumber
+  read-lacks a = rw a
+
+  pub read-none : readsNumbers k ≡ true → numberFields notNumber s ≡ Refused notNumber → readNumber k s ≡ Refused notNumber
+  unfolding readNumber
+  read-none a e = rw (a, e)
+
+  pub read-some : (f : Fields) → readsNumbers k ≡ true → numberFields notNumber s ≡ Gives f → readNumber k s ≡ decoded k f
+  unfolding readNumber
+  read-some f a e = rw (a, e)
+
+  pub guess-lacks : guesses k ≡ false → guessNumber k s ≡ Refused notOfKind
+  unfolding guessNumber
+  guess-lacks a = rw a
+
+  pub guess-none : guesses k ≡ true → numberFields notNumber s ≡ Refused notNumber → guessNumber k s ≡ Refused notNumber
+  unfolding guessNumber
+  guess-none a e = rw (a, e)
+
+  pub guess-some : (f : Fields) {t : Bool} → guesses k ≡ true → numberFields notNumber s ≡ Gives f → guessed k f ≡ t →
+      guessNumber k s ≡ demand t notNumber (decoded k f)
+  unfolding guessNumber
+  guess-some f a e g = rw (a, e, g)
+
+-- ---- the way back, of a date handed in
+
+module _ (k : Kind) (y : ℤ) (w : ℕ) where
+  abbrev pub wrote : Answer ℤ
+  wrote = handedIn k y w then λ f. writeNumber k f
+
+  pub write-lacks : writesNumbers k ≡ false → wrote ≡ Refused notOfKind
+  unfolding writeNumber
+  write-lacks a = rw a (by (given (handedIn k y w)) refl)
+    where
+      by : (t : Bool) → given (handedIn k y w) ≡ t → _≡_ {A = Answer ℤ} (handedIn k y w then λ f. Refused notOfKind) (Refused notOfKind)
+      by true e = rw (handed-by k y w e)
+      by false e = rw (handed-by k y w e)
+
+  pub write-refused : handedIn k y w ≡ Refused notOfKind → wrote ≡ Refused notOfKind
+  write-refused e = rw e
+
+  pub write-some : (f : Fields) → writesNumbers k ≡ true → handedIn k y w ≡ Gives f →
+      wrote ≡ Gives (straightAt (f .year) (dayOfYear (f .month) (f .day)) (writtenHour k (f .hour)))
+  unfolding writeNumber straight
+  write-some f a e = rw (e, a)
+
+  -- its month and its day are the calendar's
+  pub calendar-day : (f : Fields) → writesNumbers k ≡ true → handedIn k y w ≡ Gives f →
+      (1 ≤ f .month) × (f .month ≤ 12) × (1 ≤ f .day) × (f .day ≤ monthLength (f .month))
+  calendar-day f a e =
+      let o = handed-tells k y w f e .of-kind in
+      let t = fit k f o in
+      (t .month-low, t .month-high, t .day-low, month-fits k (writer k a .1) f o)

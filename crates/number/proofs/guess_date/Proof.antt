@@ -1,0 +1,13 @@
+-- `number::guess_date` meets its contract: the year's test, then the hour's. Assumes nothing.
+use mir.Facts.{toZ-ofZ}
+use Rattle.number.proofs.guess_date.Statement.{statement}
+use Rattle.number.proofs.guess_date.Tie as tie
+
+returns : tie.Need-returns
+returns c = rw (rw (toZ-ofZ (c .before .fits .year)) at (c .if1 .taken))
+
+returns-2 : tie.Need-returns-2
+returns-2 c = rw (rw (toZ-ofZ (c .before .fits .year)) at (c .if1 .left))
+
+pub guess-date-spec : {M : Type 1} → statement M
+guess-date-spec = tie.close (tie.spec returns returns-2)

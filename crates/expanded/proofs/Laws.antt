@@ -43,12 +43,12 @@ low-bits-set k y w h = rw (ne-eqb (w % 4) 0 (λ e. omega arith))
 
 pub handed-is : (k : Kind) (y : ℤ) (w : ℕ) {t : Bool} → w % 4 ≤ 0 → SFits w16 y → fitsKind k (w / 4096) (w / 128 % 32) (w / 4 % 32) ≡ t →
     handedIn k y w ≡ demand t notOfKind (Gives (record { year = y; month = w / 4096; day = w / 128 % 32; hour = w / 4 % 32 }))
-unfolding handedIn unpacked
+unfolding handedIn
 handed-is k y w h f e = rw (eq-eqb (w % 4) 0 (omega arith)) (made-is k notOfKind (unpacked y w) f e)
 
 -- fields that do not fit are refused, whatever the year
 pub handed-not : (k : Kind) (y : ℤ) (w : ℕ) → w % 4 ≤ 0 → fitsKind k (w / 4096) (w / 128 % 32) (w / 4 % 32) ≡ false → handedIn k y w ≡ Refused notOfKind
-unfolding handedIn unpacked made ofKind
+unfolding handedIn made ofKind
 handed-not k y w h e = rw (eq-eqb (w % 4) 0 (omega arith), e) (none (fits16 y))
   where
     none : (t : Bool) → demand (t && false) notOfKind (Gives (unpacked y w)) ≡ Refused notOfKind
@@ -82,5 +82,5 @@ module _ (k : Kind) (y z : ℤ) (v w : ℕ) where
   second-refused e f = rw (handed-by k y v e, handed-by k z w f)
 
   pub in-order : given (handedIn k y v) ≡ true → given (handedIn k z w) ≡ true → compared ≡ Gives (byZ y z (byN v w Same))
-  unfolding order unpacked
+  unfolding order
   in-order e f = rw (handed-by k y v e, handed-by k z w f, handed-word k y v e, handed-word k z w f)

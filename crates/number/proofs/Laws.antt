@@ -38,10 +38,6 @@ module _ (n : ℕ) {s : ℤ} {u d : ℕ} (h : Halved 2147483647 s u d) where
 -- ---- the full decoder and the guess, by their tests
 
 module _ (k : Kind) (s : ℤ) where
-  pub read-lacks : readsNumbers k ≡ false → readNumber k s ≡ Refused notOfKind
-  unfolding readNumber
-  read-lacks a = rw a
-
   pub read-none : readsNumbers k ≡ true → numberFields notNumber s ≡ Refused notNumber → readNumber k s ≡ Refused notNumber
   unfolding readNumber
   read-none a e = rw (a, e)
@@ -49,10 +45,6 @@ module _ (k : Kind) (s : ℤ) where
   pub read-some : (f : Fields) → readsNumbers k ≡ true → numberFields notNumber s ≡ Gives f → readNumber k s ≡ decoded k f
   unfolding readNumber
   read-some f a e = rw (a, e)
-
-  pub guess-lacks : guesses k ≡ false → guessNumber k s ≡ Refused notOfKind
-  unfolding guessNumber
-  guess-lacks a = rw a
 
   pub guess-none : guesses k ≡ true → numberFields notNumber s ≡ Refused notNumber → guessNumber k s ≡ Refused notNumber
   unfolding guessNumber

@@ -26,12 +26,10 @@ hourIn N.None = 0
 abbrev pub readAs : Read → Answer Stored
 readAs (R.Date p) = Gives (bitsOf p)
 readAs R.NotNumber = Refused notNumber
-readAs R.NotOfKind = Refused notOfKind
 
 abbrev pub guessedAs : Guess → Answer Stored
 guessedAs (G.Date p) = Gives (bitsOf p)
 guessedAs G.NotNumber = Refused notNumber
-guessedAs G.NotOfKind = Refused notOfKind
 
 abbrev pub writtenAs : Written → Answer ℤ
 writtenAs (W.Number n) = Gives n

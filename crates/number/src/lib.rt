@@ -1,5 +1,6 @@
 // Numbers to dates and back, for every kind: the fields of a number, the full decoder, the narrow guess, and what D and H write.
 ghost use mathlib.Core.Path.{_≡_};
+ghost use mathlib.Core.Bool.{true};
 ghost use Prim.Native.Nat.{ℕ, _<_};
 ghost use Rattle.rules.specs.Words.{eqZ};
 ghost use Rattle.rules.specs.Refusals.{_then_, notNumber};
@@ -23,14 +24,12 @@ pub enum Numbered {
 pub enum Read {
     Date(Packed),
     NotNumber,
-    NotOfKind,
 }
 
 // What the guess answers.
 pub enum Guess {
     Date(Packed),
     NotNumber,
-    NotOfKind,
 }
 
 // The number of a date.
@@ -82,34 +81,6 @@ fn decoded_hour(kind: Kind, hour: u8) -> u8
         Kind::Uniform => hour,
         Kind::Eu5 => hour,
         Kind::Vic3 => hour,
-    }
-}
-
-// U reads no number outside text.
-fn reads_numbers(kind: Kind) -> bool
-    ensures { λ r. ⌜ r ≡ readsNumbers (kindOf kind) ⌝ }
-{
-    match kind {
-        Kind::Raw => true,
-        Kind::Date => true,
-        Kind::Hour => true,
-        Kind::Uniform => false,
-        Kind::Eu5 => true,
-        Kind::Vic3 => true,
-    }
-}
-
-// R and U have no guess.
-fn guesses_numbers(kind: Kind) -> bool
-    ensures { λ r. ⌜ r ≡ guesses (kindOf kind) ⌝ }
-{
-    match kind {
-        Kind::Raw => false,
-        Kind::Date => true,
-        Kind::Hour => true,
-        Kind::Uniform => false,
-        Kind::Eu5 => true,
-        Kind::Vic3 => true,
     }
 }
 
@@ -206,43 +177,37 @@ fn passes_guess(kind: Kind, year: i16, month: u8, day: u8, hour: u8) -> bool
     }
 }
 
-// The full decoder: for a field that is declared as a date.
+// The full decoder: for a field that is declared as a date. U has none.
 pub fn from_binary(kind: Kind, s: i32) -> Read
+    requires { ⌜ readsNumbers (kindOf kind) ≡ true ⌝ }
     ensures { λ r. ⌜ readAs r ≡ store (readNumber (kindOf kind) s) ⌝ }
 {
-    if reads_numbers(kind) {
-        let Numbered::Fields(f) = number_fields(s) else {
-            return Read::NotNumber;
-        };
-        let made = decode(kind, f.year, f.month, f.day, f.hour);
-        match made {
-            Made::Date(date) => Read::Date(date),
-            Made::None => Read::NotNumber,
-        }
-    } else {
-        Read::NotOfKind
+    let Numbered::Fields(f) = number_fields(s) else {
+        return Read::NotNumber;
+    };
+    let made = decode(kind, f.year, f.month, f.day, f.hour);
+    match made {
+        Made::Date(date) => Read::Date(date),
+        Made::None => Read::NotNumber,
     }
 }
 
-// The narrow guess: for a number that no one declared.
+// The narrow guess: for a number that no one declared. R and U have none.
 pub fn from_binary_heuristic(kind: Kind, s: i32) -> Guess
+    requires { ⌜ guesses (kindOf kind) ≡ true ⌝ }
     ensures { λ r. ⌜ guessedAs r ≡ store (guessNumber (kindOf kind) s) ⌝ }
 {
-    if guesses_numbers(kind) {
-        let Numbered::Fields(f) = number_fields(s) else {
-            return Guess::NotNumber;
-        };
-        if passes_guess(kind, f.year, f.month, f.day, f.hour) {
-            let made = decode(kind, f.year, f.month, f.day, f.hour);
-            match made {
-                Made::Date(date) => Guess::Date(date),
-                Made::None => Guess::NotNumber,
-            }
-        } else {
-            Guess::NotNumber
+    let Numbered::Fields(f) = number_fields(s) else {
+        return Guess::NotNumber;
+    };
+    if passes_guess(kind, f.year, f.month, f.day, f.hour) {
+        let made = decode(kind, f.year, f.month, f.day, f.hour);
+        match made {
+            Made::Date(date) => Guess::Date(date),
+            Made::None => Guess::NotNumber,
         }
     } else {
-        Guess::NotOfKind
+        Guess::NotNumber
     }
 }
 

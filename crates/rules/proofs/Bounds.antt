@@ -45,7 +45,7 @@ fields =
     ∷ []
 
 pub fields-hold : answers fields ≡ literals fields
-unfolding lengths monthLength fitsKind ofKind made fromFields unpacked handedIn
+unfolding lengths monthLength fitsKind ofKind made fromFields handedIn
 fields-hold = refl
 
 -- D's lengths and its `+`; number texts; years; hours

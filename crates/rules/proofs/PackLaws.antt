@@ -26,7 +26,7 @@ unfolding packed
 word-fits k f p = let t = fit k f p in let d = day-small k f p in let h = hour-small k f p in omega arith
 
 unpack-pack : (k : Kind) (f : Fields) → ofKind k f ≡ true → unpacked (f .year) (packed f) ≡ f
-unfolding unpacked packed
+unfolding packed
 unpack-pack k f p =
     let d = day-small k f p in let h = hour-small k f p in
     same-fields refl (omega arith) (omega arith) (omega arith)
@@ -42,7 +42,7 @@ pub record Handed (k : Kind) (year : ℤ) (word : ℕ) (f : Fields) : Type 0 whe
   pub word-is : packed f ≡ word
 
 pub handed-tells : (k : Kind) (year : ℤ) (word : ℕ) (f : Fields) → handedIn k year word ≡ Gives f → Handed k year word f
-unfolding handedIn made unpacked packed
+unfolding handedIn made packed
 handed-tells k year word f e = inner (eqb (word % 4) 0) (ofKind k (unpacked year word)) refl refl e
   where
     inner : (s t : Bool) → eqb (word % 4) 0 ≡ s → ofKind k (unpacked year word) ≡ t →

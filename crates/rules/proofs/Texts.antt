@@ -70,7 +70,7 @@ books =
     ∷ []
 
 pub books-hold : answers books ≡ literals books
-unfolding bigEndian bigBytes lengths monthLength fitsKind ofKind made packed unpacked handedIn lengthSaid pieces recordsIn firstBad allSound records
+unfolding bigEndian bigBytes lengths monthLength fitsKind ofKind made packed handedIn lengthSaid pieces recordsIn firstBad allSound records
     appendAnswer appended appendBuffer newAnswer newBuffer kindOfCode yearOfTwos entryBytes entryOf entryFor
 books-hold = refl
 
@@ -102,7 +102,7 @@ counts =
     ∷ []
 
 pub counts-hold : answers counts ≡ literals counts
-unfolding bigEndian bigBytes lengths monthLength fitsKind ofKind made packed unpacked handedIn lengthSaid pieces recordsIn firstBad allSound records
+unfolding bigEndian bigBytes lengths monthLength fitsKind ofKind made packed handedIn lengthSaid pieces recordsIn firstBad allSound records
     check appendAnswer appended appendBuffer newAnswer newBuffer kindOfCode yearOfTwos entryBytes entryOf entryFor putAnswer
 counts-hold = refl
 

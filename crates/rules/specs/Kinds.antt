@@ -105,7 +105,7 @@ unfoldable pub packed : Fields → ℕ
 packed f = f .month * 4096 + f .day * 128 + f .hour * 4
 
 -- the fields of a year and a word, whatever the word's two low bits
-unfoldable pub unpacked : ℤ → ℕ → Fields
+abbrev pub unpacked : ℤ → ℕ → Fields
 unpacked year word = record { year = year; month = word / 4096; day = word / 128 % 32; hour = word / 4 % 32 }
 
 -- a date handed in, as its year and its word: one of the kind, its two low bits 0, or 4

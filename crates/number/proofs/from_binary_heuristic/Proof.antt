@@ -9,13 +9,22 @@ use Rattle.rules.specs.Refusals.{notNumber}
 use Rattle.rules.specs.Kinds.{store}
 use Rattle.expanded.specs.Views.{kindOf, fieldsOf, answer}
 use Rattle.number.specs.Views.{numbered, hourIn}
-use Rattle.number.proofs.Laws.{guess-lacks, guess-none, guess-some}
+use Rattle.number.proofs.Laws.{guess-none, guess-some}
 use Rattle.number.proofs.from_binary_heuristic.Statement.{statement}
 use Rattle.number.proofs.from_binary_heuristic.Tie as tie
 
+number-fields-requires : tie.Need-number-fields-requires
+number-fields-requires c κs = search needs
+
+enum-known-f : tie.Need-enum-known-f
+enum-known-f c = search needs
+
+enum-told : tie.Need-enum-told
+enum-told c = search needs
+
 returns : tie.Need-returns
 returns c =
-    rw (guess-none (kindOf (c .before .before .before .before .before .args .kind)) (c .before .before .before .before .before .args .s) (sym (c .before .before .before .before .guesses-numbers .ensures) ∙ c .before .before .before .if1 .taken) (sym (rw (toZ-ofZ (c .before .before .before .before .before .fits .s)) at (c .before .before .number-fields .ensures .0 notNumber)) ∙ ap (numbered notNumber) (c .enum-told .given .1)))
+    rw (guess-none (kindOf (c .before .before .before .args .kind)) (c .before .before .before .args .s) (c .before .before .before .pre) (sym (rw (toZ-ofZ (c .before .before .before .fits .s)) at (c .before .before .number-fields .ensures .0 notNumber)) ∙ ap (numbered notNumber) (c .enum-told .given .1)))
 
 passes-guess-requires : tie.Need-passes-guess-requires
 passes-guess-requires c κs =
@@ -25,36 +34,36 @@ decode-requires : tie.Need-decode-requires
 decode-requires c κs =
     omega (arith, ap hourIn (c .before .before .before .before .before .f .given .1), c .before .before .before .before .before .before .before .number-fields .ensures .1)
 
+enum-known-made : tie.Need-enum-known-made
+enum-known-made c = search needs
+
+enum-told-2 : tie.Need-enum-told-2
+enum-told-2 c = search needs
+
 returns-2 : tie.Need-returns-2
 returns-2 c =
-    let e = c .before .before .before .before .before .before .before .before .before .f .given .0 .0 in rw (guess-some (kindOf (c .before .before .before .before .before .before .before .before .before .before .before .before .before .before .args .kind)) (c .before .before .before .before .before .before .before .before .before .before .before .before .before .before .args .s) (fieldsOf e) (sym (c .before .before .before .before .before .before .before .before .before .before .before .before .before .guesses-numbers .ensures) ∙ c .before .before .before .before .before .before .before .before .before .before .before .before .if1 .taken) (sym (rw (toZ-ofZ (c .before .before .before .before .before .before .before .before .before .before .before .before .before .before .fits .s)) at (c .before .before .before .before .before .before .before .before .before .before .before .number-fields .ensures .0 notNumber)) ∙ ap (numbered notNumber) (c .before .before .before .before .before .before .before .before .before .f .given .1)) (sym (rw (held w16 {z = e .year} (c .before .before .before .before .before .before .before .struct-told .given .0 .1)) at (c .before .before .before .before .before .before .passes-guess .ensures)) ∙ c .before .before .before .before .before .if2 .taken)) (ap (answer notNumber) (sym (c .before .made .given .1)) ∙ (rw (held w16 {z = e .year} (c .before .before .before .before .struct-told2 .given .0 .1)) at (c .before .before .before .decode .ensures)))
+    let e = c .before .before .before .before .before .before .before .before .before .f .given .0 .0 in rw (guess-some (kindOf (c .before .before .before .before .before .before .before .before .before .before .before .before .args .kind)) (c .before .before .before .before .before .before .before .before .before .before .before .before .args .s) (fieldsOf e) (c .before .before .before .before .before .before .before .before .before .before .before .before .pre) (sym (rw (toZ-ofZ (c .before .before .before .before .before .before .before .before .before .before .before .before .fits .s)) at (c .before .before .before .before .before .before .before .before .before .before .before .number-fields .ensures .0 notNumber)) ∙ ap (numbered notNumber) (c .before .before .before .before .before .before .before .before .before .f .given .1)) (sym (rw (held w16 {z = e .year} (c .before .before .before .before .before .before .before .struct-told .given .0 .1)) at (c .before .before .before .before .before .before .passes-guess .ensures)) ∙ c .before .before .before .before .before .if1 .taken)) (ap (answer notNumber) (sym (c .before .made .given .1)) ∙ (rw (held w16 {z = e .year} (c .before .before .before .before .struct-told2 .given .0 .1)) at (c .before .before .before .decode .ensures)))
 
 returns-3 : tie.Need-returns-3
 returns-3 c =
-    let e = c .before .before .before .before .before .before .before .before .f .given .0 .0 in rw (guess-some (kindOf (c .before .before .before .before .before .before .before .before .before .before .before .before .before .args .kind)) (c .before .before .before .before .before .before .before .before .before .before .before .before .before .args .s) (fieldsOf e) (sym (c .before .before .before .before .before .before .before .before .before .before .before .before .guesses-numbers .ensures) ∙ c .before .before .before .before .before .before .before .before .before .before .before .if1 .taken) (sym (rw (toZ-ofZ (c .before .before .before .before .before .before .before .before .before .before .before .before .before .fits .s)) at (c .before .before .before .before .before .before .before .before .before .before .number-fields .ensures .0 notNumber)) ∙ ap (numbered notNumber) (c .before .before .before .before .before .before .before .before .f .given .1)) (sym (rw (held w16 {z = e .year} (c .before .before .before .before .before .before .struct-told .given .0 .1)) at (c .before .before .before .before .before .passes-guess .ensures)) ∙ c .before .before .before .before .if2 .taken)) (ap (answer notNumber) (sym (c .enum-told2 .given .1)) ∙ (rw (held w16 {z = e .year} (c .before .before .before .struct-told2 .given .0 .1)) at (c .before .before .decode .ensures)))
+    let e = c .before .before .before .before .before .before .before .before .f .given .0 .0 in rw (guess-some (kindOf (c .before .before .before .before .before .before .before .before .before .before .before .args .kind)) (c .before .before .before .before .before .before .before .before .before .before .before .args .s) (fieldsOf e) (c .before .before .before .before .before .before .before .before .before .before .before .pre) (sym (rw (toZ-ofZ (c .before .before .before .before .before .before .before .before .before .before .before .fits .s)) at (c .before .before .before .before .before .before .before .before .before .before .number-fields .ensures .0 notNumber)) ∙ ap (numbered notNumber) (c .before .before .before .before .before .before .before .before .f .given .1)) (sym (rw (held w16 {z = e .year} (c .before .before .before .before .before .before .struct-told .given .0 .1)) at (c .before .before .before .before .before .passes-guess .ensures)) ∙ c .before .before .before .before .if1 .taken)) (ap (answer notNumber) (sym (c .enum-told2 .given .1)) ∙ (rw (held w16 {z = e .year} (c .before .before .before .struct-told2 .given .0 .1)) at (c .before .before .decode .ensures)))
 
 returns-4 : tie.Need-returns-4
 returns-4 c =
-    let e = c .before .before .before .before .f .given .0 .0 in rw (guess-some (kindOf (c .before .before .before .before .before .before .before .before .before .args .kind)) (c .before .before .before .before .before .before .before .before .before .args .s) (fieldsOf e) (sym (c .before .before .before .before .before .before .before .before .guesses-numbers .ensures) ∙ c .before .before .before .before .before .before .before .if1 .taken) (sym (rw (toZ-ofZ (c .before .before .before .before .before .before .before .before .before .fits .s)) at (c .before .before .before .before .before .before .number-fields .ensures .0 notNumber)) ∙ ap (numbered notNumber) (c .before .before .before .before .f .given .1)) (sym (rw (held w16 {z = e .year} (c .before .before .struct-told .given .0 .1)) at (c .before .passes-guess .ensures)) ∙ c .if2 .left))
-
-returns-5 : tie.Need-returns-5
-returns-5 c =
-    rw (guess-lacks (kindOf (c .before .before .args .kind)) (c .before .before .args .s) (sym (c .before .guesses-numbers .ensures) ∙ c .if1 .left))
+    let e = c .before .before .before .before .f .given .0 .0 in rw (guess-some (kindOf (c .before .before .before .before .before .before .before .args .kind)) (c .before .before .before .before .before .before .before .args .s) (fieldsOf e) (c .before .before .before .before .before .before .before .pre) (sym (rw (toZ-ofZ (c .before .before .before .before .before .before .before .fits .s)) at (c .before .before .before .before .before .before .number-fields .ensures .0 notNumber)) ∙ ap (numbered notNumber) (c .before .before .before .before .f .given .1)) (sym (rw (held w16 {z = e .year} (c .before .before .struct-told .given .0 .1)) at (c .before .passes-guess .ensures)) ∙ c .if1 .left))
 
 pub from-binary-heuristic-spec : {M : Type 1} → statement M
 from-binary-heuristic-spec =
     tie.close
     (tie.spec
-    (λ c κs. search needs)
-    (λ c κs. search needs)
-    (λ c. search needs)
-    (λ c. search needs)
+    number-fields-requires
+    enum-known-f
+    enum-told
     returns
     passes-guess-requires
     decode-requires
-    (λ c. search needs)
-    (λ c. search needs)
+    enum-known-made
+    enum-told-2
     returns-2
     returns-3
-    returns-4
-    returns-5)
+    returns-4)

@@ -1,0 +1,94 @@
+-- A text after its leading number, by the code's tests: over the two naturals of the leading number. Assumes nothing.
+use mathlib.Core.Path.{_≡_, refl, sym, _∙_}
+use mathlib.Core.Bool.{Bool, true, false, _&&_}
+use mathlib.Core.List.{List, [], _∷_}
+use Prim.Native.Nat.{ℕ, _+_, _≤_, _<_}
+use native.Mathlib.Omega.{arith}
+use lib.IntN.{ℤ, pos, subℕ}
+use lib.ListN.{length, drop}
+use Rattle.sign.specs.Halves.{up, dn, Halved}
+use Rattle.sign.proofs.Laws.{ints, as-sub, yes-le, no-le}
+use Rattle.rules.specs.Words.{minus, withinZ, fits16, fits32}
+use Rattle.rules.specs.Refusals.{Answer, Gives, Refused, _then_, demand, notText}
+use Rattle.rules.specs.Kinds.{Kind, Fields, Stored, ofKind, made, settled, store}
+use Rattle.rules.specs.Numbers.{numberFields}
+use Rattle.rules.specs.Text.{Read, atEnd, readsNumberTexts, numberText, dottedPart, textFields}
+use Rattle.rules.proofs.Rests.{here, past}
+
+-- ---- whether the leading number fits 16, or 32, bits
+
+module _ {y : ℤ} {u d : ℕ} (h : Halved 9223372036854775807 y u d) where
+  pub is-sub : y ≡ subℕ u d
+  is-sub = rw (h .up-is, h .dn-is) at (as-sub y)
+
+  pub fits-both : (lo hi : ℕ) → u ≤ hi → d ≤ lo → withinZ (minus lo) (pos hi) y ≡ true
+  fits-both lo hi a b =
+      rw (
+        yes-le (minus lo) y (simp (ints, h .up-is, h .dn-is) (omega arith)),
+        yes-le y (pos hi) (simp (ints, h .up-is, h .dn-is) (omega arith)),
+      )
+
+  pub too-high : (lo hi : ℕ) → hi < u → withinZ (minus lo) (pos hi) y ≡ false
+  too-high lo hi a =
+      let o = h .one in
+      rw (
+        yes-le (minus lo) y (simp (ints, h .up-is, h .dn-is) (omega arith)),
+        no-le y (pos hi) (simp (ints, h .up-is, h .dn-is) (omega arith)),
+      )
+
+  pub too-low : (lo hi : ℕ) → lo < d → withinZ (minus lo) (pos hi) y ≡ false
+  too-low lo hi a = let o = h .one in rw (no-le (minus lo) y (simp (ints, h .up-is, h .dn-is) (omega arith)))
+
+-- ---- a number text
+
+module _ (k : Kind) (v : ℤ) where
+  abbrev pub numberDate : Answer Stored
+  numberDate = store (numberText k v then λ f. settled k notText f)
+
+  pub number-lacks : readsNumberTexts k ≡ false → numberDate ≡ Refused notText
+  unfolding numberText
+  number-lacks a = rw a
+
+  pub number-out : readsNumberTexts k ≡ true → fits32 v ≡ false → numberDate ≡ Refused notText
+  unfolding numberText
+  number-out a b = rw (a, b)
+
+  pub number-none : readsNumberTexts k ≡ true → fits32 v ≡ true → numberFields notText v ≡ Refused notText → numberDate ≡ Refused notText
+  unfolding numberText
+  number-none a b e = rw (a, b, e)
+
+  pub number-some : (f : Fields) → readsNumberTexts k ≡ true → fits32 v ≡ true → numberFields notText v ≡ Gives f →
+      numberDate ≡ store (settled k notText f)
+  unfolding numberText
+  number-some f a b e = rw (a, b, e)
+
+-- ---- the dotted part
+
+module _ (k : Kind) (y : ℤ) (s : List ℕ) where
+  abbrev pub dottedDate : Answer Stored
+  dottedDate = store (dottedPart y s then λ f. settled k notText f)
+
+  pub dotted-none : dottedPart y s ≡ Refused notText → dottedDate ≡ Refused notText
+  dotted-none e = rw e
+
+  module _ (m d h : ℕ) (e : dottedPart y s ≡ Gives (record { year = y; month = m; day = d; hour = h })) where
+    pub dotted-out : fits16 y ≡ false → dottedDate ≡ Refused notText
+    unfolding settled made ofKind
+    dotted-out a = rw (e, a)
+
+    pub dotted-some : dottedDate ≡ store (settled k notText (record { year = y; month = m; day = d; hour = h }))
+    dotted-some = rw e
+
+-- ---- the two
+
+module _ (k : Kind) (v : ℤ) (s : List ℕ) (i : ℕ) where
+  abbrev pub restDate : Answer Stored
+  restDate = store (textFields k (record { value = v; rest = drop i s }) then λ f. settled k notText f)
+
+  pub ends : length s ≤ i → restDate ≡ numberDate k v
+  unfolding textFields
+  ends h = rw (past s i h)
+
+  pub goes-on : i < length s → restDate ≡ dottedDate k v (drop i s)
+  unfolding textFields
+  goes-on h = rw (here s i h)

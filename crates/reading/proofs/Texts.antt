@@ -1,0 +1,153 @@
+-- A whole text, by the steps of each kind's reader: its length, its shape, its leading number, the rest. Assumes nothing.
+use mathlib.Core.Path.{_≡_, refl, sym, ap, _∙_}
+use mathlib.Core.Bool.{Bool, true, false, _&&_}
+use mathlib.Core.List.{List, [], _∷_}
+use Prim.Native.Nat.{ℕ, _≤_, _<_}
+use native.Mathlib.Omega.{arith}
+use borrow.Author.Tests.{le-leb, lt-leb, leb-false, ltb-true, ltb-false}
+use lib.Dec.{leb, ltb, eqb}
+use lib.IntN.{ℤ, pos, natAbs}
+use lib.ListN.{length}
+use lib.Signed.{leZ}
+use Rattle.sign.specs.Halves.{up, dn}
+use Rattle.sign.proofs.Laws.{ints, one-side, yes-le, no-le}
+use Rattle.rules.specs.Words.{minus, withinZ, fits16, fits32, byte}
+use Rattle.rules.specs.Refusals.{Answer, Gives, Refused, RefusedAt, _then_, demand, tooLong, notText}
+use Rattle.rules.specs.Kinds.{Kind, Fields, Stored, ofKind, made, settled, store}
+use Rattle.rules.specs.Numbers.{numberFields}
+use Rattle.rules.specs.Text.{Read, isDigit, digitValue, notZeroFirst, atEnd, readsNumberTexts, afterDot, secondDigit, oneOrTwo, hourAfter, dottedPart, numberText, shapeAllowed, leading, textLimit, textFields, readText}
+use Rattle.scalar.specs.Number.{most63, leadingNumber}
+
+-- ---- answers that refuse with 2 alone
+
+data Only {A : Type 0} : Answer A → Type 0 where
+  gives : (a : A) → Only (Gives a)
+  refuses : Only (Refused notText)
+
+only-demand : {A : Type 0} (t : Bool) {x : Answer A} → Only x → Only (demand t notText x)
+only-demand true o = o
+only-demand false o = refuses
+
+only-dot : (s : List ℕ) → Only (afterDot s)
+unfolding afterDot
+only-dot [] = refuses
+only-dot (b ∷ s) = only-demand (eqb b (byte ".")) (gives s)
+
+only-digits : (s : List ℕ) → Only (oneOrTwo s)
+unfolding oneOrTwo
+only-digits [] = refuses
+only-digits (b ∷ s) = only-demand (isDigit b) (gives (secondDigit (digitValue b) s))
+
+only-then : {A B : Type 0} {x : Answer A} {next : A → Answer B} → Only x → ((a : A) → Only (next a)) → Only (x then next)
+only-then (gives a) h = h a
+only-then refuses h = refuses
+
+only-hour : (s : List ℕ) → Only (hourAfter s)
+unfolding hourAfter
+only-hour [] = gives 0
+only-hour (b ∷ s) =
+    only-then (only-dot (b ∷ s))
+    (λ h. only-demand (notZeroFirst h) (only-then (only-digits h) (λ hour. only-demand (atEnd (hour .rest)) (gives (hour .value)))))
+
+-- fields of the year y, or a refusal with 2
+data OfYear (y : ℤ) : Answer Fields → Type 0 where
+  dated : (m d h : ℕ) → OfYear y (Gives (record { year = y; month = m; day = d; hour = h }))
+  none : OfYear y (Refused notText)
+
+year-then : {A : Type 0} {y : ℤ} {x : Answer A} {next : A → Answer Fields} → Only x → ((a : A) → OfYear y (next a)) → OfYear y (x then next)
+year-then (gives a) h = h a
+year-then refuses h = none
+
+dotted-year : (y : ℤ) (s : List ℕ) → OfYear y (dottedPart y s)
+unfolding dottedPart
+dotted-year y s =
+    year-then (only-dot s)
+    (λ m. year-then (only-digits m)
+    (λ month. year-then (only-dot (month .rest))
+    (λ d. year-then (only-digits d)
+    (λ day. year-then (only-hour (day .rest))
+    (λ hour. dated (month .value) (day .value) hour)))))
+
+-- ---- a leading number of more than 63 bits is no year and no number text
+
+year-out : (k : Kind) {y : ℤ} {x : Answer Fields} → OfYear y x → fits16 y ≡ false → (x then λ f. settled k notText f) ≡ Refused notText
+unfolding settled made ofKind
+year-out k (dated m d h) e = rw e
+year-out k none e = refl
+
+and-false : (t : Bool) → t && false ≡ false
+and-false true = refl
+and-false false = refl
+
+text-out : (k : Kind) (y : ℤ) (rest : List ℕ) → fits16 y ≡ false → fits32 y ≡ false →
+    (textFields k (record { value = y; rest = rest }) then λ f. settled k notText f) ≡ Refused notText
+unfolding textFields numberText
+text-out k y [] a b = rw (b, and-false (readsNumberTexts k))
+text-out k y (c ∷ s) a b = year-out k (dotted-year y (c ∷ s)) a
+
+beyond : (y : ℤ) (lo hi : ℕ) → lo ≤ most63 → hi ≤ most63 → most63 < natAbs y → withinZ (minus lo) (pos hi) y ≡ false
+beyond y lo hi a b h = split (ltb 0 (dn y)) refl
+  where
+    split : (t : Bool) → ltb 0 (dn y) ≡ t → withinZ (minus lo) (pos hi) y ≡ false
+    split true e =
+        let l = ltb-true 0 (dn y) e in let o = one-side y in let n = simp ints at h in
+        rw (no-le (minus lo) y (simp ints (omega arith)))
+    split false e =
+        let l = ltb-false 0 (dn y) e in let n = simp ints at h in
+        rw (yes-le (minus lo) y (simp ints (omega arith)), no-le y (pos hi) (omega arith))
+
+-- ---- the leading number, of which the code reads 63 bits
+
+abbrev fit63 : Read ℤ → Answer (Read ℤ)
+fit63 r = demand (leb (natAbs (r .value)) most63) notText (Gives r)
+
+abbrev datedBy : Kind → Answer (Read ℤ) → Answer Stored
+datedBy k a = store (a then λ r. textFields k r then λ f. settled k notText f)
+
+lead-none : (k : Kind) (a : Answer (Read ℤ)) → (a then fit63) ≡ Refused notText → datedBy k a ≡ Refused notText
+lead-none k (Gives r) e = split (leb (natAbs (r .value)) most63) refl e
+  where
+    split : (t : Bool) → leb (natAbs (r .value)) most63 ≡ t → demand t notText (Gives r) ≡ Refused notText → datedBy k (Gives r) ≡ Refused notText
+    split true p q = let z : _≡_ {A = ℕ} 0 1 = cc in absurd (omega arith)
+    split false p q =
+        let h = leb-false (natAbs (r .value)) most63 p in
+        rw (text-out k (r .value) (r .rest) (beyond (r .value) 32768 32767 (omega arith) (omega arith) h) (beyond (r .value) 2147483648 2147483647 (omega arith) (omega arith) h))
+lead-none k (Refused n) e = let q : n ≡ notText = cc in ap Refused q
+lead-none k (RefusedAt n place) e = let z : _≡_ {A = ℕ} 0 1 = cc in absurd (omega arith)
+
+lead-some : (k : Kind) (a : Answer (Read ℤ)) (r : Read ℤ) → (a then fit63) ≡ Gives r → datedBy k a ≡ datedBy k (Gives r)
+lead-some k (Gives q) r e = split (leb (natAbs (q .value)) most63) e
+  where
+    split : (t : Bool) → demand t notText (Gives q) ≡ Gives r → datedBy k (Gives q) ≡ datedBy k (Gives r)
+    split true p = let same : q ≡ r = cc in ap (λ x. datedBy k (Gives x)) same
+    split false p = let z : _≡_ {A = ℕ} 0 1 = cc in absurd (omega arith)
+lead-some k (Refused n) r e = let z : _≡_ {A = ℕ} 0 1 = cc in absurd (omega arith)
+lead-some k (RefusedAt n place) r e = let z : _≡_ {A = ℕ} 0 1 = cc in absurd (omega arith)
+
+-- ---- the whole text
+
+module _ (k : Kind) (s : List ℕ) where
+  abbrev pub textDate : Answer Stored
+  textDate = store (readText k s)
+
+  pub too-long : textLimit < length s → textDate ≡ Refused tooLong
+  unfolding readText
+  too-long h = rw (lt-leb (length s) textLimit h)
+
+  module _ (fits : length s ≤ textLimit) where
+    pub shape-refused : shapeAllowed k s ≡ false → textDate ≡ Refused notText
+    unfolding readText
+    shape-refused e = rw (le-leb (length s) textLimit fits, e)
+
+    module _ (shape : shapeAllowed k s ≡ true) where
+      reads : textDate ≡ store (leading s then λ r. textFields k r then λ f. settled k notText f)
+      unfolding readText
+      reads = rw (le-leb (length s) textLimit fits, shape)
+
+      pub no-leading : leadingNumber s ≡ Refused notText → textDate ≡ Refused notText
+      unfolding leadingNumber
+      no-leading e = reads ∙ lead-none k (leading s) e
+
+      pub with-leading : (r : Read ℤ) → leadingNumber s ≡ Gives r → textDate ≡ store (textFields k r then λ f. settled k notText f)
+      unfolding leadingNumber
+      with-leading r e = reads ∙ lead-some k (leading s) r e

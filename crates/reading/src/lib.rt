@@ -1,0 +1,77 @@
+// A text after its leading number, for every kind: nothing follows and it is a number text, or the dotted part follows.
+ghost use mathlib.Core.Path.{_≡_};
+ghost use lib.ListN.{drop};
+ghost use Rattle.rules.specs.Refusals.{_then_, notText};
+ghost use Rattle.rules.specs.Kinds.{settled, store};
+ghost use Rattle.rules.specs.Text.{readsNumberTexts, numberText, dottedPart, textFields};
+ghost use Rattle.expanded.specs.Views.{kindOf, answer};
+use dotted::Parts;
+use expanded::Kind;
+use expanded::Made;
+use number::Numbered;
+
+// R, V and E refuse a number text.
+fn reads_number_texts(kind: Kind) -> bool
+    ensures { λ r. ⌜ r ≡ readsNumberTexts (kindOf kind) ⌝ }
+{
+    match kind {
+        Kind::Raw => false,
+        Kind::Date => true,
+        Kind::Hour => true,
+        Kind::Uniform => true,
+        Kind::Eu5 => false,
+        Kind::Vic3 => false,
+    }
+}
+
+// A number text, its hour unchanged. The number must fit 32 bits.
+fn number_text(kind: Kind, value: i64) -> Made
+    ensures { λ r. ⌜ answer notText r ≡ store (numberText (kindOf kind) value then λ f. settled (kindOf kind) notText f) ⌝ }
+{
+    if reads_number_texts(kind) {
+        let h = sign::halves64(value);
+        let u = h.up;
+        let d = h.dn;
+        if 2147483647 < u {
+            return Made::None;
+        }
+        if 2147483648 < d {
+            return Made::None;
+        }
+        let Numbered::Fields(f) = number::number_fields(sign::int32(u, d)) else {
+            return Made::None;
+        };
+        expanded::settle(kind, f.year, f.month, f.day, f.hour)
+    } else {
+        Made::None
+    }
+}
+
+// The dotted part, after a year that must fit 16 bits.
+fn dotted_text(kind: Kind, s: &[u8], value: i64, next: usize) -> Made
+    ensures { λ r. ⌜ answer notText r ≡ store (dottedPart value (drop next (now (s .entry))) then λ f. settled (kindOf kind) notText f) ⌝ }
+{
+    let Parts::Fields { month, day, hour } = dotted::dotted_part(s, next) else {
+        return Made::None;
+    };
+    let h = sign::halves64(value);
+    let u = h.up;
+    let d = h.dn;
+    if 32767 < u {
+        return Made::None;
+    }
+    if 32768 < d {
+        return Made::None;
+    }
+    expanded::settle(kind, sign::int16(u, d), month, day, hour)
+}
+
+// The date of a text whose leading number is `value`, with the rest from `next` on.
+pub fn read_rest(kind: Kind, s: &[u8], value: i64, next: usize) -> Made
+    ensures { λ r. ⌜ answer notText r ≡ store (textFields (kindOf kind) (record { value = value; rest = drop next (now (s .entry)) }) then λ f. settled (kindOf kind) notText f) ⌝ }
+{
+    if s.len() <= next {
+        return number_text(kind, value);
+    }
+    dotted_text(kind, s, value, next)
+}

@@ -1,0 +1,12 @@
+-- `vic3_date::Vic3Date::least` meets its contract, by computation. Assumes nothing.
+use mathlib.Core.Path.{refl}
+use Rattle.rules.specs.Kinds.{packed, least}
+use Rattle.vic3_date.proofs.Vic3Date.least.Statement.{statement}
+use Rattle.vic3_date.proofs.Vic3Date.least.Tie as tie
+
+returns : tie.Need-returns
+unfolding packed least
+returns c = refl
+
+pub least-spec : {M : Type 1} → statement M
+least-spec = tie.close (tie.spec returns)

@@ -10,6 +10,9 @@ use expanded::Kind;
 use expanded::Made;
 use number::Numbered;
 
+// The most bytes that a text may have.
+pub const TEXT_LIMIT: usize = 16;
+
 // R, V and E refuse a number text.
 fn reads_number_texts(kind: Kind) -> bool
     ensures { λ r. ⌜ r ≡ readsNumberTexts (kindOf kind) ⌝ }

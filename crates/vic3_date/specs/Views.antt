@@ -1,14 +1,18 @@
 -- The answers of the code, with document 01's number for each case. Assumes nothing.
-use Rattle.rules.specs.Refusals.{Answer, Gives, Refused, notNumber, notOfKind}
+use Rattle.rules.specs.Refusals.{Answer, Gives, Refused, tooLong, notText, notNumber, notOfKind, sumOverflows, outOfRange}
 use Rattle.rules.specs.Kinds.{Stored}
 use Rattle.expanded.specs.Views.{bitsOf}
 use Rattle.vic3_date.specs.declared.Vic3Date.{Vic3Date}
 use Rattle.vic3_date.specs.declared.Made.{Made}
 use Rattle.vic3_date.specs.declared.Made.the-variants as M
+use Rattle.vic3_date.specs.declared.Parsed.{Parsed}
+use Rattle.vic3_date.specs.declared.Parsed.the-variants as P
 use Rattle.vic3_date.specs.declared.Decoded.{Decoded}
 use Rattle.vic3_date.specs.declared.Decoded.the-variants as D
 use Rattle.vic3_date.specs.declared.Guessed.{Guessed}
 use Rattle.vic3_date.specs.declared.Guessed.the-variants as G
+use Rattle.vic3_date.specs.declared.Summed.{Summed}
+use Rattle.vic3_date.specs.declared.Summed.the-variants as S
 
 abbrev pub bits : Vic3Date → Stored
 bits d = bitsOf (d .raw)
@@ -17,6 +21,11 @@ abbrev pub made : Made → Answer Stored
 made (M.Date d) = Gives (bits d)
 made M.NotOfKind = Refused notOfKind
 
+abbrev pub parsed : Parsed → Answer Stored
+parsed (P.Date d) = Gives (bits d)
+parsed P.TooLong = Refused tooLong
+parsed P.NotText = Refused notText
+
 abbrev pub decoded : Decoded → Answer Stored
 decoded (D.Date d) = Gives (bits d)
 decoded D.NotNumber = Refused notNumber
@@ -24,3 +33,9 @@ decoded D.NotNumber = Refused notNumber
 abbrev pub guessed : Guessed → Answer Stored
 guessed (G.Date d) = Gives (bits d)
 guessed G.NotNumber = Refused notNumber
+
+abbrev pub summed : Summed → Answer Stored
+summed (S.Date d) = Gives (bits d)
+summed S.NotOfKind = Refused notOfKind
+summed S.Overflow = Refused sumOverflows
+summed S.OutOfRange = Refused outOfRange

@@ -3,30 +3,52 @@ ghost use mathlib.Core.Path.{_≡_};
 ghost use Rattle.rules.specs.Refusals.{Gives, _then_};
 ghost use Rattle.rules.specs.Kinds.{kV, unpacked, least, greatest, fromFields, handedIn, stored, store};
 ghost use Rattle.rules.specs.Numbers.{readNumber, guessNumber};
-ghost use Rattle.rules.specs.Days.{order};
+ghost use Rattle.rules.specs.Days.{addDays, difference, order};
+ghost use Rattle.rules.specs.Text.{readText};
 ghost use Rattle.expanded.specs.Views.{ordered};
-ghost use Rattle.vic3_date.specs.Views.{bits, made, decoded, guessed};
+ghost use Rattle.day_count.specs.Views.{counted};
+ghost use Rattle.vic3_date.specs.Views.{bits, made, parsed, decoded, guessed, summed};
+use day_count::Days;
 use expanded::Kind;
 use expanded::Ordered;
 use expanded::Packed;
+use scalar::Leading;
 
 pub struct Vic3Date {
     pub raw: Packed,
 }
 
+// A date of given fields.
 pub enum Made {
     Date(Vic3Date),
     NotOfKind,
 }
 
+// What a text is read as.
+pub enum Parsed {
+    Date(Vic3Date),
+    TooLong,
+    NotText,
+}
+
+// What the full decoder makes of a number.
 pub enum Decoded {
     Date(Vic3Date),
     NotNumber,
 }
 
+// What the guess makes of a number: never taken for the full decoder's answer.
 pub enum Guessed {
     Date(Vic3Date),
     NotNumber,
+}
+
+// A date moved by days.
+pub enum Summed {
+    Date(Vic3Date),
+    NotOfKind,
+    Overflow,
+    OutOfRange,
 }
 
 impl Vic3Date {
@@ -66,6 +88,7 @@ impl Vic3Date {
         }
     }
 
+    // The four component reads take the bits as they are; every method that gives the date a meaning tests them first.
     pub fn year(self) -> i16
         ensures { λ r. ⌜ r ≡ self .raw .year ⌝ }
     {
@@ -90,6 +113,23 @@ impl Vic3Date {
         (self.raw.word / 4 % 32) as u8
     }
 
+    pub fn parse(s: &[u8]) -> Parsed
+        ensures { λ r. ⌜ parsed r ≡ store (readText kV (now (s .entry))) ⌝ }
+    {
+        if reading::TEXT_LIMIT < s.len() {
+            return Parsed::TooLong;
+        }
+        let Leading::Number { value, next } = scalar::to_i64_t(s) else {
+            return Parsed::NotText;
+        };
+        let made = reading::read_rest(Kind::Vic3, s, value, next);
+        match made {
+            expanded::Made::Date(raw) => Parsed::Date(Vic3Date { raw }),
+            expanded::Made::None => Parsed::NotText,
+        }
+    }
+
+    // For a field that is declared as a date.
     pub fn from_binary(s: i32) -> Decoded
         ensures { λ r. ⌜ decoded r ≡ store (readNumber kV s) ⌝ }
     {
@@ -98,6 +138,36 @@ impl Vic3Date {
             number::Read::Date(raw) => Decoded::Date(Vic3Date { raw }),
             number::Read::NotNumber => Decoded::NotNumber,
         }
+    }
+
+    // For a number that no one declared.
+    pub fn from_binary_heuristic(s: i32) -> Guessed
+        ensures { λ r. ⌜ guessed r ≡ store (guessNumber kV s) ⌝ }
+    {
+        let guess = number::from_binary_heuristic(Kind::Vic3, s);
+        match guess {
+            number::Guess::Date(raw) => Guessed::Date(Vic3Date { raw }),
+            number::Guess::NotNumber => Guessed::NotNumber,
+        }
+    }
+
+    // A new date; the old one stays.
+    pub fn add_days(self, days: i32) -> Summed
+        ensures { λ r. ⌜ summed r ≡ store (handedIn kV (self .raw .year) (self .raw .word) then λ f. addDays kV f days) ⌝ }
+    {
+        let sum = day_count::add_days(Kind::Vic3, self.raw, days);
+        match sum {
+            day_count::Sum::Date(raw) => Summed::Date(Vic3Date { raw }),
+            day_count::Sum::NotOfKind => Summed::NotOfKind,
+            day_count::Sum::Overflow => Summed::Overflow,
+            day_count::Sum::OutOfRange => Summed::OutOfRange,
+        }
+    }
+
+    pub fn days_until(self, other: Vic3Date) -> Days
+        ensures { λ r. ⌜ counted r ≡ (handedIn kV (self .raw .year) (self .raw .word) then λ f. handedIn kV (other .raw .year) (other .raw .word) then λ g. difference kV f g) ⌝ }
+    {
+        day_count::days_until(Kind::Vic3, self.raw, other.raw)
     }
 
     pub fn compare(self, other: Vic3Date) -> Ordered

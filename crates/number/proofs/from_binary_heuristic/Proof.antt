@@ -13,15 +13,6 @@ use Rattle.number.proofs.Laws.{guess-none, guess-some}
 use Rattle.number.proofs.from_binary_heuristic.Statement.{statement}
 use Rattle.number.proofs.from_binary_heuristic.Tie as tie
 
-number-fields-requires : tie.Need-number-fields-requires
-number-fields-requires c κs = search needs
-
-enum-known-f : tie.Need-enum-known-f
-enum-known-f c = search needs
-
-enum-told : tie.Need-enum-told
-enum-told c = search needs
-
 returns : tie.Need-returns
 returns c =
     rw (guess-none (kindOf (c .before .before .before .args .kind)) (c .before .before .before .args .s) (c .before .before .before .pre) (sym (rw (toZ-ofZ (c .before .before .before .fits .s)) at (c .before .before .number-fields .ensures .0 notNumber)) ∙ ap (numbered notNumber) (c .enum-told .given .1)))
@@ -33,12 +24,6 @@ passes-guess-requires c κs =
 decode-requires : tie.Need-decode-requires
 decode-requires c κs =
     omega (arith, ap hourIn (c .before .before .before .before .before .f .given .1), c .before .before .before .before .before .before .before .number-fields .ensures .1)
-
-enum-known-made : tie.Need-enum-known-made
-enum-known-made c = search needs
-
-enum-told-2 : tie.Need-enum-told-2
-enum-told-2 c = search needs
 
 returns-2 : tie.Need-returns-2
 returns-2 c =
@@ -56,14 +41,14 @@ pub from-binary-heuristic-spec : {M : Type 1} → statement M
 from-binary-heuristic-spec =
     tie.close
     (tie.spec
-    number-fields-requires
-    enum-known-f
-    enum-told
+    (λ c κs. search needs)
+    (λ c. search needs)
+    (λ c. search needs)
     returns
     passes-guess-requires
     decode-requires
-    enum-known-made
-    enum-told-2
+    (λ c. search needs)
+    (λ c. search needs)
     returns-2
     returns-3
     returns-4)

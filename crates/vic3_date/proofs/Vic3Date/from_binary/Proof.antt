@@ -6,15 +6,6 @@ use Rattle.number.specs.Views.{readAs}
 use Rattle.vic3_date.proofs.Vic3Date.from_binary.Statement.{statement}
 use Rattle.vic3_date.proofs.Vic3Date.from_binary.Tie as tie
 
-from-binary-requires : tie.Need-from-binary-requires
-from-binary-requires c κs = search needs
-
-enum-known-read : tie.Need-enum-known-read
-enum-known-read c = search needs
-
-enum-told : tie.Need-enum-told
-enum-told c = search needs
-
 returns : tie.Need-returns
 returns c =
     ap readAs (sym (c .before .read .given .1)) ∙ (rw (toZ-ofZ (c .before .before .before .before .fits .s)) at (c .before .before .before .from-binary .ensures))
@@ -25,4 +16,4 @@ returns-2 c =
 
 pub from-binary-spec : {M : Type 1} → statement M
 from-binary-spec =
-    tie.close (tie.spec from-binary-requires enum-known-read enum-told returns returns-2)
+    tie.close (tie.spec (λ c κs. search needs) (λ c. search needs) (λ c. search needs) returns returns-2)

@@ -8,15 +8,6 @@ use Rattle.expanded.specs.Views.{answer}
 use Rattle.vic3_date.proofs.Vic3Date.from_ymdh_opt.Statement.{statement}
 use Rattle.vic3_date.proofs.Vic3Date.from_ymdh_opt.Tie as tie
 
-make-requires : tie.Need-make-requires
-make-requires c κs = search needs
-
-enum-known-made : tie.Need-enum-known-made
-enum-known-made c = search needs
-
-enum-told : tie.Need-enum-told
-enum-told c = search needs
-
 returns : tie.Need-returns
 unfolding fromFields
 returns c =
@@ -28,4 +19,4 @@ returns-2 c =
     ap (answer notOfKind) (sym (c .enum-told .given .1)) ∙ (rw (toZ-ofZ (c .before .before .before .fits .year)) at (c .before .before .make .ensures notOfKind))
 
 pub from-ymdh-opt-spec : {M : Type 1} → statement M
-from-ymdh-opt-spec = tie.close (tie.spec make-requires enum-known-made enum-told returns returns-2)
+from-ymdh-opt-spec = tie.close (tie.spec (λ c κs. search needs) (λ c. search needs) (λ c. search needs) returns returns-2)

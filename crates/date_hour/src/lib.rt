@@ -1,0 +1,157 @@
+// The hourly date (H): a day of the calendar, with an hour of 1 to 24.
+ghost use mathlib.Core.Path.{_≡_};
+ghost use Rattle.rules.specs.Refusals.{Gives, _then_};
+ghost use Rattle.rules.specs.Kinds.{kH, unpacked, least, greatest, fromFields, handedIn, stored, store};
+ghost use Rattle.rules.specs.Numbers.{readNumber, guessNumber, writeNumber};
+ghost use Rattle.rules.specs.Days.{order};
+ghost use Rattle.rules.specs.Text.{readText};
+ghost use Rattle.expanded.specs.Views.{ordered};
+ghost use Rattle.number.specs.Views.{writtenAs};
+ghost use Rattle.date_hour.specs.Views.{bits, made, parsed, decoded, guessed};
+use expanded::Kind;
+use expanded::Ordered;
+use expanded::Packed;
+use number::Written;
+use scalar::Leading;
+
+pub struct DateHour {
+    pub raw: Packed,
+}
+
+// A date of given fields.
+pub enum Made {
+    Date(DateHour),
+    NotOfKind,
+}
+
+// What a text is read as.
+pub enum Parsed {
+    Date(DateHour),
+    TooLong,
+    NotText,
+}
+
+// What the full decoder makes of a number.
+pub enum Decoded {
+    Date(DateHour),
+    NotNumber,
+}
+
+// What the guess makes of a number: never taken for the full decoder's answer.
+pub enum Guessed {
+    Date(DateHour),
+    NotNumber,
+}
+
+impl DateHour {
+    pub const LEAST: DateHour = DateHour {
+        raw: Packed {
+            year: -32768,
+            word: 4228,
+        },
+    };
+
+    pub const GREATEST: DateHour = DateHour {
+        raw: Packed {
+            year: 32767,
+            word: 53216,
+        },
+    };
+
+    pub fn least() -> DateHour
+        ensures { λ r. ⌜ bits r ≡ stored (least kH) ⌝ }
+    {
+        DateHour::LEAST
+    }
+
+    pub fn greatest() -> DateHour
+        ensures { λ r. ⌜ bits r ≡ stored (greatest kH) ⌝ }
+    {
+        DateHour::GREATEST
+    }
+
+    pub fn from_ymdh_opt(year: i16, month: u8, day: u8, hour: u8) -> Made
+        ensures { λ r. ⌜ made r ≡ store (fromFields kH (record { year = year; month = month; day = day; hour = hour })) ⌝ }
+    {
+        let made = expanded::make(Kind::Hour, year, month, day, hour);
+        match made {
+            expanded::Made::Date(raw) => Made::Date(DateHour { raw }),
+            expanded::Made::None => Made::NotOfKind,
+        }
+    }
+
+    // The four component reads take the bits as they are; every method that gives the date a meaning tests them first.
+    pub fn year(self) -> i16
+        ensures { λ r. ⌜ r ≡ self .raw .year ⌝ }
+    {
+        self.raw.year
+    }
+
+    pub fn month(self) -> u8
+        ensures { λ r. ⌜ r ≡ unpacked (self .raw .year) (self .raw .word) .month ⌝ }
+    {
+        (self.raw.word / 4096) as u8
+    }
+
+    pub fn day(self) -> u8
+        ensures { λ r. ⌜ r ≡ unpacked (self .raw .year) (self .raw .word) .day ⌝ }
+    {
+        (self.raw.word / 128 % 32) as u8
+    }
+
+    pub fn hour(self) -> u8
+        ensures { λ r. ⌜ r ≡ unpacked (self .raw .year) (self .raw .word) .hour ⌝ }
+    {
+        (self.raw.word / 4 % 32) as u8
+    }
+
+    pub fn parse(s: &[u8]) -> Parsed
+        ensures { λ r. ⌜ parsed r ≡ store (readText kH (now (s .entry))) ⌝ }
+    {
+        if reading::TEXT_LIMIT < s.len() {
+            return Parsed::TooLong;
+        }
+        let Leading::Number { value, next } = scalar::to_i64_t(s) else {
+            return Parsed::NotText;
+        };
+        let made = reading::read_rest(Kind::Hour, s, value, next);
+        match made {
+            expanded::Made::Date(raw) => Parsed::Date(DateHour { raw }),
+            expanded::Made::None => Parsed::NotText,
+        }
+    }
+
+    // For a field that is declared as a date.
+    pub fn from_binary(s: i32) -> Decoded
+        ensures { λ r. ⌜ decoded r ≡ store (readNumber kH s) ⌝ }
+    {
+        let read = number::from_binary(Kind::Hour, s);
+        match read {
+            number::Read::Date(raw) => Decoded::Date(DateHour { raw }),
+            number::Read::NotNumber => Decoded::NotNumber,
+        }
+    }
+
+    // For a number that no one declared.
+    pub fn from_binary_heuristic(s: i32) -> Guessed
+        ensures { λ r. ⌜ guessed r ≡ store (guessNumber kH s) ⌝ }
+    {
+        let guess = number::from_binary_heuristic(Kind::Hour, s);
+        match guess {
+            number::Guess::Date(raw) => Guessed::Date(DateHour { raw }),
+            number::Guess::NotNumber => Guessed::NotNumber,
+        }
+    }
+
+    pub fn to_binary(self) -> Written
+        ensures { λ r. ⌜ writtenAs r ≡ (handedIn kH (self .raw .year) (self .raw .word) then λ f. writeNumber kH f) ⌝ }
+    {
+        number::to_binary(Kind::Hour, self.raw)
+    }
+
+    pub fn compare(self, other: DateHour) -> Ordered
+        ensures { λ r. ⌜ ordered r ≡ (handedIn kH (self .raw .year) (self .raw .word) then λ f. handedIn kH (other .raw .year) (other .raw .word) then λ g. Gives (order f g)) ⌝ }
+    {
+        expanded::compare(Kind::Hour, self.raw, other.raw)
+    }
+}

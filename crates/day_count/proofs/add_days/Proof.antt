@@ -1,0 +1,48 @@
+-- `day_count::add_days` meets its contract: a date of the kind, where the kind counts days, is moved. Assumes nothing.
+use mathlib.Core.Path.{_≡_, sym, ap, _∙_}
+use mir.Facts.{toZ-ofZ}
+use Rattle.rules.specs.Refusals.{Gives}
+use Rattle.rules.specs.Kinds.{handedIn}
+use Rattle.rules.specs.Days.{addDays}
+use Rattle.expanded.specs.Views.{kindOf, fieldsOf, opened}
+use Rattle.day_count.proofs.Laws.{on-calendar, hour-low}
+use borrow.Author.Needs.{needs}
+use Rattle.day_count.proofs.add_days.Statement.{statement}
+use Rattle.day_count.proofs.add_days.Tie as tie
+
+-- the fields that were found are those of the date handed in
+handed : (c : tie.After-known-told) → let a = c .before .before .before .before .args in
+    handedIn (kindOf (a .kind)) (a .date .year) (a .date .word) ≡ Gives (fieldsOf (c .before .opened .given .0 .0))
+handed c = sym (c .before .before .before .unpack .ensures) ∙ ap opened (c .before .opened .given .1)
+
+returns : tie.Need-returns
+returns c = rw (sym (c .before .before .unpack .ensures) ∙ ap opened (c .enum-told .given .1))
+
+moved-requires : tie.Need-moved-requires
+moved-requires c κs =
+    let f = handed (c .before .before .before) in
+    (on-calendar _ _ _ _ f (sym (c .before .before .counts-days .ensures) ∙ c .before .if1 .taken), rw (c .summed-hour .ensures) (hour-low _ _ _ _ f))
+
+returns-2 : tie.Need-returns-2
+unfolding addDays
+returns-2 c =
+    rw (handed (c .before .before .before .before), sym (c .before .before .before .counts-days .ensures) ∙ c .before .before .if1 .taken)
+    (rw (toZ-ofZ (c .before .before .before .before .before .before .before .before .fits .days), c .before .summed-hour .ensures) at (c .moved .ensures))
+
+returns-3 : tie.Need-returns-3
+unfolding addDays
+returns-3 c = rw (handed (c .before .before), sym (c .before .counts-days .ensures) ∙ c .if1 .left)
+
+pub add-days-spec : {M : Type 1} → statement M
+add-days-spec =
+    tie.close
+    (tie.spec
+    (λ c κs. search needs)
+    (λ c. search needs)
+    (λ c. search needs)
+    returns
+    (λ c κs. search needs)
+    (λ c κs. search needs)
+    moved-requires
+    returns-2
+    returns-3)

@@ -1,0 +1,52 @@
+-- `day_count::date_of` meets its contract: year, month and day are those of the number, and the word is packed of them. Assumes nothing.
+use mathlib.Core.Path.{_∙_}
+use native.Mathlib.Omega.{arith}
+use Prim.Native.Nat.{_+_, _%_, _≤_}
+use mir.Syntax.{w16}
+use Rattle.sign.proofs.Bits.{held}
+use Rattle.rules.specs.Calendar.{monthDay}
+use Rattle.rules.proofs.CalendarLaws.{is-day, length-small}
+use Rattle.day_count.proofs.Laws.{date-is}
+use borrow.Author.Needs.{needs}
+use Rattle.day_count.proofs.date_of.Statement.{statement}
+use Rattle.day_count.proofs.date_of.Tie as tie
+
+-- bounds, so that the word fits
+small : (c : tie.After-month-day-from-julian) → (c .month-day-from-julian .result .month ≤ 12) × (c .month-day-from-julian .result .day ≤ 31)
+small c =
+    let d = (c .before .before .args .up + c .before .before .args .dn) % 365 in
+    let x = is-day d (omega arith) in
+    let l = length-small (monthDay d .month) (x .month-high) in
+    let e = c .month-day-from-julian .ensures in
+    omega arith
+
+mul-word : tie.Need-mul-word
+mul-word c = omega (arith, small c)
+
+add-word : tie.Need-add-word
+add-word c = omega (arith, small c)
+
+add-word-2 : tie.Need-add-word-2
+add-word-2 c = omega (arith, small c)
+
+returns : tie.Need-returns
+returns c =
+    let y = held w16 (c .before .int16 .ok) ∙ c .before .int16 .ensures in
+    date-is _ _ (c .before .before .pre .0) _ y (c .month-day-from-julian .ensures .0) (c .month-day-from-julian .ensures .1)
+
+pub date-of-spec : {M : Type 1} → statement M
+date-of-spec =
+    tie.close
+    (tie.spec
+    (λ c κs. search needs)
+    (λ c. search needs)
+    (λ c. search needs)
+    (λ c κs. search needs)
+    (λ c. search needs)
+    mul-word
+    (λ c. search needs)
+    (λ c. search needs)
+    add-word
+    (λ c. search needs)
+    add-word-2
+    returns)

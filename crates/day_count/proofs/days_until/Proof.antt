@@ -1,0 +1,64 @@
+-- `day_count::days_until` meets its contract: two dates of the kind, where the kind counts days, have a difference. Assumes nothing.
+use mathlib.Core.Path.{_≡_, sym, ap, _∙_}
+use mir.Syntax.{w32}
+use Rattle.sign.proofs.Bits.{held}
+use Rattle.rules.specs.Refusals.{Gives}
+use Rattle.rules.specs.Kinds.{handedIn}
+use Rattle.rules.specs.Days.{difference}
+use Rattle.expanded.specs.Views.{kindOf, fieldsOf, opened}
+use Rattle.day_count.proofs.Laws.{on-calendar}
+use borrow.Author.Needs.{needs}
+use Rattle.day_count.proofs.days_until.Statement.{statement}
+use Rattle.day_count.proofs.days_until.Tie as tie
+
+-- the fields that were found are those of the dates handed in
+first-handed : (c : tie.After-known-told) → let a = c .before .before .before .before .args in
+    handedIn (kindOf (a .kind)) (a .first .year) (a .first .word) ≡ Gives (fieldsOf (c .before .a .given .0 .0))
+first-handed c = sym (c .before .before .before .unpack .ensures) ∙ ap opened (c .before .a .given .1)
+
+second-handed : (c : tie.After-known-told2) → let a = c .before .before .before .before .before .before .before .before .args in
+    handedIn (kindOf (a .kind)) (a .second .year) (a .second .word) ≡ Gives (fieldsOf (c .before .b .given .0 .0))
+second-handed c = sym (c .before .before .before .unpack2 .ensures) ∙ ap opened (c .before .b .given .1)
+
+returns : tie.Need-returns
+returns c = rw (sym (c .before .before .unpack .ensures) ∙ ap opened (c .enum-told .given .1))
+
+returns-2 : tie.Need-returns-2
+returns-2 c =
+    rw (first-handed (c .before .before .before), sym (c .before .before .unpack2 .ensures) ∙ ap opened (c .enum-told2 .given .1))
+
+between-requires : tie.Need-between-requires
+between-requires c κs =
+    let k = c .before .before in
+    let e = sym (c .before .counts-days .ensures) ∙ c .if1 .taken in
+    (on-calendar _ _ _ _ (first-handed (k .before .before .before .before)) e, on-calendar _ _ _ _ (second-handed k) e)
+
+returns-3 : tie.Need-returns-3
+unfolding difference
+returns-3 c =
+    let k = c .before .before .before in
+    rw (first-handed (k .before .before .before .before), second-handed k, sym (c .before .before .counts-days .ensures) ∙ c .before .if1 .taken)
+    (ap Gives (held w32 (c .between .ok) ∙ c .between .ensures))
+
+returns-4 : tie.Need-returns-4
+unfolding difference
+returns-4 c =
+    let k = c .before .before in
+    rw (first-handed (k .before .before .before .before), second-handed k, sym (c .before .counts-days .ensures) ∙ c .if1 .left)
+
+pub days-until-spec : {M : Type 1} → statement M
+days-until-spec =
+    tie.close
+    (tie.spec
+    (λ c κs. search needs)
+    (λ c. search needs)
+    (λ c. search needs)
+    returns
+    (λ c κs. search needs)
+    (λ c. search needs)
+    (λ c. search needs)
+    returns-2
+    (λ c κs. search needs)
+    between-requires
+    returns-3
+    returns-4)

@@ -1,0 +1,54 @@
+-- The answers of the code, with document 01's number for each case. Assumes nothing.
+use Prim.Native.Nat.{ℕ}
+use Rattle.rules.specs.Refusals.{Answer, Gives, Refused, tooLong, notText, notNumber, notOfKind, sumOverflows, outOfRange}
+use Rattle.rules.specs.Kinds.{Stored}
+use Rattle.expanded.specs.Views.{bitsOf}
+use Rattle.eu5_date.specs.declared.Eu5Date.{Eu5Date}
+use Rattle.eu5_date.specs.declared.Made.{Made}
+use Rattle.eu5_date.specs.declared.Made.the-variants as M
+use Rattle.eu5_date.specs.declared.Parsed.{Parsed}
+use Rattle.eu5_date.specs.declared.Parsed.the-variants as P
+use Rattle.eu5_date.specs.declared.Decoded.{Decoded}
+use Rattle.eu5_date.specs.declared.Decoded.the-variants as D
+use Rattle.eu5_date.specs.declared.Guessed.{Guessed}
+use Rattle.eu5_date.specs.declared.Guessed.the-variants as G
+use Rattle.eu5_date.specs.declared.Summed.{Summed}
+use Rattle.eu5_date.specs.declared.Summed.the-variants as S
+use Rattle.eu5_date.specs.declared.Started.{Started}
+use Rattle.eu5_date.specs.declared.Started.the-variants as T
+use Rattle.eu5_date.specs.declared.InGame.{InGame}
+use Rattle.eu5_date.specs.declared.InGame.the-variants as I
+
+abbrev pub bits : Eu5Date → Stored
+bits d = bitsOf (d .raw)
+
+abbrev pub made : Made → Answer Stored
+made (M.Date d) = Gives (bits d)
+made M.NotOfKind = Refused notOfKind
+
+abbrev pub parsed : Parsed → Answer Stored
+parsed (P.Date d) = Gives (bits d)
+parsed P.TooLong = Refused tooLong
+parsed P.NotText = Refused notText
+
+abbrev pub decoded : Decoded → Answer Stored
+decoded (D.Date d) = Gives (bits d)
+decoded D.NotNumber = Refused notNumber
+
+abbrev pub guessed : Guessed → Answer Stored
+guessed (G.Date d) = Gives (bits d)
+guessed G.NotNumber = Refused notNumber
+
+abbrev pub summed : Summed → Answer Stored
+summed (S.Date d) = Gives (bits d)
+summed S.NotOfKind = Refused notOfKind
+summed S.Overflow = Refused sumOverflows
+summed S.OutOfRange = Refused outOfRange
+
+abbrev pub started : Started → Answer Stored
+started (T.Date d) = Gives (bits d)
+started T.NotOfKind = Refused notOfKind
+
+abbrev pub inGame : InGame → Answer ℕ
+inGame (I.Hour h) = Gives h
+inGame I.NotOfKind = Refused notOfKind

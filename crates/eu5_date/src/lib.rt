@@ -1,0 +1,217 @@
+// EU5's date (E): a day of the calendar, with an hour component of 0 to 22.
+ghost use mathlib.Core.Path.{_≡_};
+ghost use Rattle.rules.specs.Refusals.{Gives, _then_};
+ghost use Rattle.rules.specs.Kinds.{kE, inGameHour, unpacked, least, greatest, fromFields, handedIn, stored, store};
+ghost use Rattle.rules.specs.Numbers.{readNumber, guessNumber};
+ghost use Rattle.rules.specs.Days.{addDays, difference, startOfDay, order};
+ghost use Rattle.rules.specs.Text.{readText};
+ghost use Rattle.expanded.specs.Views.{ordered};
+ghost use Rattle.day_count.specs.Views.{counted};
+ghost use Rattle.eu5_date.specs.Views.{bits, made, parsed, decoded, guessed, summed, started, inGame};
+use day_count::Days;
+use expanded::Kind;
+use expanded::Opened;
+use expanded::Ordered;
+use expanded::Packed;
+use scalar::Leading;
+
+pub struct Eu5Date {
+    pub raw: Packed,
+}
+
+// A date of given fields.
+pub enum Made {
+    Date(Eu5Date),
+    NotOfKind,
+}
+
+// What a text is read as.
+pub enum Parsed {
+    Date(Eu5Date),
+    TooLong,
+    NotText,
+}
+
+// What the full decoder makes of a number.
+pub enum Decoded {
+    Date(Eu5Date),
+    NotNumber,
+}
+
+// What the guess makes of a number: never taken for the full decoder's answer.
+pub enum Guessed {
+    Date(Eu5Date),
+    NotNumber,
+}
+
+// A date moved by days.
+pub enum Summed {
+    Date(Eu5Date),
+    NotOfKind,
+    Overflow,
+    OutOfRange,
+}
+
+// The start of a date's day.
+pub enum Started {
+    Date(Eu5Date),
+    NotOfKind,
+}
+
+// The hour that the game shows, 8 to 19.
+pub enum InGame {
+    Hour(u8),
+    NotOfKind,
+}
+
+impl Eu5Date {
+    pub const LEAST: Eu5Date = Eu5Date {
+        raw: Packed {
+            year: -32768,
+            word: 4224,
+        },
+    };
+
+    pub const GREATEST: Eu5Date = Eu5Date {
+        raw: Packed {
+            year: 32767,
+            word: 53208,
+        },
+    };
+
+    pub fn least() -> Eu5Date
+        ensures { λ r. ⌜ bits r ≡ stored (least kE) ⌝ }
+    {
+        Eu5Date::LEAST
+    }
+
+    pub fn greatest() -> Eu5Date
+        ensures { λ r. ⌜ bits r ≡ stored (greatest kE) ⌝ }
+    {
+        Eu5Date::GREATEST
+    }
+
+    pub fn from_ymd_opt(year: i16, month: u8, day: u8) -> Made
+        ensures { λ r. ⌜ made r ≡ store (fromFields kE (record { year = year; month = month; day = day; hour = 0 })) ⌝ }
+    {
+        let made = expanded::make(Kind::Eu5, year, month, day, 0);
+        match made {
+            expanded::Made::Date(raw) => Made::Date(Eu5Date { raw }),
+            expanded::Made::None => Made::NotOfKind,
+        }
+    }
+
+    // The four component reads take the bits as they are; every method that gives the date a meaning tests them first.
+    pub fn year(self) -> i16
+        ensures { λ r. ⌜ r ≡ self .raw .year ⌝ }
+    {
+        self.raw.year
+    }
+
+    pub fn month(self) -> u8
+        ensures { λ r. ⌜ r ≡ unpacked (self .raw .year) (self .raw .word) .month ⌝ }
+    {
+        (self.raw.word / 4096) as u8
+    }
+
+    pub fn day(self) -> u8
+        ensures { λ r. ⌜ r ≡ unpacked (self .raw .year) (self .raw .word) .day ⌝ }
+    {
+        (self.raw.word / 128 % 32) as u8
+    }
+
+    // The hour component as it is stored: 0 for 08:00, 2 for 09:00, to 22 for 19:00.
+    pub fn component(self) -> u8
+        ensures { λ r. ⌜ r ≡ unpacked (self .raw .year) (self .raw .word) .hour ⌝ }
+    {
+        (self.raw.word / 4 % 32) as u8
+    }
+
+    // The in-game hour, as jomini's `hour` gives it.
+    pub fn hour(self) -> InGame
+        ensures { λ r. ⌜ inGame r ≡ (handedIn kE (self .raw .year) (self .raw .word) then λ f. Gives (inGameHour (f .hour))) ⌝ }
+    {
+        let opened = expanded::unpack(Kind::Eu5, self.raw);
+        match opened {
+            Opened::Fields(f) => {
+                let hour = f.hour;
+                InGame::Hour(hour / 2 + 8)
+            }
+            Opened::NotOfKind => InGame::NotOfKind,
+        }
+    }
+
+    pub fn parse(s: &[u8]) -> Parsed
+        ensures { λ r. ⌜ parsed r ≡ store (readText kE (now (s .entry))) ⌝ }
+    {
+        if reading::TEXT_LIMIT < s.len() {
+            return Parsed::TooLong;
+        }
+        let Leading::Number { value, next } = scalar::to_i64_t(s) else {
+            return Parsed::NotText;
+        };
+        let made = reading::read_rest(Kind::Eu5, s, value, next);
+        match made {
+            expanded::Made::Date(raw) => Parsed::Date(Eu5Date { raw }),
+            expanded::Made::None => Parsed::NotText,
+        }
+    }
+
+    // For a field that is declared as a date.
+    pub fn from_binary(s: i32) -> Decoded
+        ensures { λ r. ⌜ decoded r ≡ store (readNumber kE s) ⌝ }
+    {
+        let read = number::from_binary(Kind::Eu5, s);
+        match read {
+            number::Read::Date(raw) => Decoded::Date(Eu5Date { raw }),
+            number::Read::NotNumber => Decoded::NotNumber,
+        }
+    }
+
+    // For a number that no one declared.
+    pub fn from_binary_heuristic(s: i32) -> Guessed
+        ensures { λ r. ⌜ guessed r ≡ store (guessNumber kE s) ⌝ }
+    {
+        let guess = number::from_binary_heuristic(Kind::Eu5, s);
+        match guess {
+            number::Guess::Date(raw) => Guessed::Date(Eu5Date { raw }),
+            number::Guess::NotNumber => Guessed::NotNumber,
+        }
+    }
+
+    // A new date; the old one stays.
+    pub fn add_days(self, days: i32) -> Summed
+        ensures { λ r. ⌜ summed r ≡ store (handedIn kE (self .raw .year) (self .raw .word) then λ f. addDays kE f days) ⌝ }
+    {
+        let sum = day_count::add_days(Kind::Eu5, self.raw, days);
+        match sum {
+            day_count::Sum::Date(raw) => Summed::Date(Eu5Date { raw }),
+            day_count::Sum::NotOfKind => Summed::NotOfKind,
+            day_count::Sum::Overflow => Summed::Overflow,
+            day_count::Sum::OutOfRange => Summed::OutOfRange,
+        }
+    }
+
+    pub fn days_until(self, other: Eu5Date) -> Days
+        ensures { λ r. ⌜ counted r ≡ (handedIn kE (self .raw .year) (self .raw .word) then λ f. handedIn kE (other .raw .year) (other .raw .word) then λ g. difference kE f g) ⌝ }
+    {
+        day_count::days_until(Kind::Eu5, self.raw, other.raw)
+    }
+
+    // The same date at 08:00.
+    pub fn start_of_day(self) -> Started
+        ensures { λ r. ⌜ started r ≡ store (handedIn kE (self .raw .year) (self .raw .word) then λ f. startOfDay kE f) ⌝ }
+    {
+        let start = day_count::start_of_day(Kind::Eu5, self.raw);
+        match start {
+            day_count::Start::Date(raw) => Started::Date(Eu5Date { raw }),
+            day_count::Start::NotOfKind => Started::NotOfKind,
+        }
+    }
+
+    pub fn compare(self, other: Eu5Date) -> Ordered
+        ensures { λ r. ⌜ ordered r ≡ (handedIn kE (self .raw .year) (self .raw .word) then λ f. handedIn kE (other .raw .year) (other .raw .word) then λ g. Gives (order f g)) ⌝ }
+    {
+        expanded::compare(Kind::Eu5, self.raw, other.raw)
+    }
+}

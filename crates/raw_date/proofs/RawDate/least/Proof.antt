@@ -1,0 +1,12 @@
+-- `raw_date::RawDate::least` meets its contract, by computation. Assumes nothing.
+use mathlib.Core.Path.{refl}
+use Rattle.rules.specs.Kinds.{packed, least}
+use Rattle.raw_date.proofs.RawDate.least.Statement.{statement}
+use Rattle.raw_date.proofs.RawDate.least.Tie as tie
+
+returns : tie.Need-returns
+unfolding packed least
+returns c = refl
+
+pub least-spec : {M : Type 1} → statement M
+least-spec = tie.close (tie.spec returns)

@@ -1,0 +1,132 @@
+// The raw date (R): any month of 1 to 31 days, with an hour of 1 to 24 or none.
+ghost use mathlib.Core.Path.{_≡_};
+ghost use Rattle.rules.specs.Refusals.{Gives, _then_};
+ghost use Rattle.rules.specs.Kinds.{kR, unpacked, least, greatest, fromFields, handedIn, stored, store};
+ghost use Rattle.rules.specs.Numbers.{readNumber};
+ghost use Rattle.rules.specs.Days.{order};
+ghost use Rattle.rules.specs.Text.{readText};
+ghost use Rattle.expanded.specs.Views.{ordered};
+ghost use Rattle.raw_date.specs.Views.{bits, made, parsed, decoded};
+use expanded::Kind;
+use expanded::Ordered;
+use expanded::Packed;
+use scalar::Leading;
+
+pub struct RawDate {
+    pub raw: Packed,
+}
+
+// A date of given fields.
+pub enum Made {
+    Date(RawDate),
+    NotOfKind,
+}
+
+// What a text is read as.
+pub enum Parsed {
+    Date(RawDate),
+    TooLong,
+    NotText,
+}
+
+// What the full decoder makes of a number.
+pub enum Decoded {
+    Date(RawDate),
+    NotNumber,
+}
+
+impl RawDate {
+    pub const LEAST: RawDate = RawDate {
+        raw: Packed {
+            year: -32768,
+            word: 4224,
+        },
+    };
+
+    pub const GREATEST: RawDate = RawDate {
+        raw: Packed {
+            year: 32767,
+            word: 53216,
+        },
+    };
+
+    pub fn least() -> RawDate
+        ensures { λ r. ⌜ bits r ≡ stored (least kR) ⌝ }
+    {
+        RawDate::LEAST
+    }
+
+    pub fn greatest() -> RawDate
+        ensures { λ r. ⌜ bits r ≡ stored (greatest kR) ⌝ }
+    {
+        RawDate::GREATEST
+    }
+
+    pub fn from_ymdh_opt(year: i16, month: u8, day: u8, hour: u8) -> Made
+        ensures { λ r. ⌜ made r ≡ store (fromFields kR (record { year = year; month = month; day = day; hour = hour })) ⌝ }
+    {
+        let made = expanded::make(Kind::Raw, year, month, day, hour);
+        match made {
+            expanded::Made::Date(raw) => Made::Date(RawDate { raw }),
+            expanded::Made::None => Made::NotOfKind,
+        }
+    }
+
+    // The four component reads take the bits as they are; every method that gives the date a meaning tests them first.
+    pub fn year(self) -> i16
+        ensures { λ r. ⌜ r ≡ self .raw .year ⌝ }
+    {
+        self.raw.year
+    }
+
+    pub fn month(self) -> u8
+        ensures { λ r. ⌜ r ≡ unpacked (self .raw .year) (self .raw .word) .month ⌝ }
+    {
+        (self.raw.word / 4096) as u8
+    }
+
+    pub fn day(self) -> u8
+        ensures { λ r. ⌜ r ≡ unpacked (self .raw .year) (self .raw .word) .day ⌝ }
+    {
+        (self.raw.word / 128 % 32) as u8
+    }
+
+    pub fn hour(self) -> u8
+        ensures { λ r. ⌜ r ≡ unpacked (self .raw .year) (self .raw .word) .hour ⌝ }
+    {
+        (self.raw.word / 4 % 32) as u8
+    }
+
+    pub fn parse(s: &[u8]) -> Parsed
+        ensures { λ r. ⌜ parsed r ≡ store (readText kR (now (s .entry))) ⌝ }
+    {
+        if reading::TEXT_LIMIT < s.len() {
+            return Parsed::TooLong;
+        }
+        let Leading::Number { value, next } = scalar::to_i64_t(s) else {
+            return Parsed::NotText;
+        };
+        let made = reading::read_rest(Kind::Raw, s, value, next);
+        match made {
+            expanded::Made::Date(raw) => Parsed::Date(RawDate { raw }),
+            expanded::Made::None => Parsed::NotText,
+        }
+    }
+
+    // For a field that is declared as a date.
+    pub fn from_binary(s: i32) -> Decoded
+        ensures { λ r. ⌜ decoded r ≡ store (readNumber kR s) ⌝ }
+    {
+        let read = number::from_binary(Kind::Raw, s);
+        match read {
+            number::Read::Date(raw) => Decoded::Date(RawDate { raw }),
+            number::Read::NotNumber => Decoded::NotNumber,
+        }
+    }
+
+    pub fn compare(self, other: RawDate) -> Ordered
+        ensures { λ r. ⌜ ordered r ≡ (handedIn kR (self .raw .year) (self .raw .word) then λ f. handedIn kR (other .raw .year) (other .raw .word) then λ g. Gives (order f g)) ⌝ }
+    {
+        expanded::compare(Kind::Raw, self.raw, other.raw)
+    }
+}

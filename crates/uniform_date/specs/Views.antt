@@ -1,0 +1,21 @@
+-- The answers of the code, with document 01's number for each case. Assumes nothing.
+use Rattle.rules.specs.Refusals.{Answer, Gives, Refused, tooLong, notText, notOfKind}
+use Rattle.rules.specs.Kinds.{Stored}
+use Rattle.expanded.specs.Views.{bitsOf}
+use Rattle.uniform_date.specs.declared.UniformDate.{UniformDate}
+use Rattle.uniform_date.specs.declared.Made.{Made}
+use Rattle.uniform_date.specs.declared.Made.the-variants as M
+use Rattle.uniform_date.specs.declared.Parsed.{Parsed}
+use Rattle.uniform_date.specs.declared.Parsed.the-variants as P
+
+abbrev pub bits : UniformDate → Stored
+bits d = bitsOf (d .raw)
+
+abbrev pub made : Made → Answer Stored
+made (M.Date d) = Gives (bits d)
+made M.NotOfKind = Refused notOfKind
+
+abbrev pub parsed : Parsed → Answer Stored
+parsed (P.Date d) = Gives (bits d)
+parsed P.TooLong = Refused tooLong
+parsed P.NotText = Refused notText

@@ -1,0 +1,114 @@
+// The uniform date (U): twelve months of 30 days, without an hour.
+ghost use mathlib.Core.Path.{_≡_};
+ghost use Rattle.rules.specs.Refusals.{Gives, _then_};
+ghost use Rattle.rules.specs.Kinds.{kU, unpacked, least, greatest, fromFields, handedIn, stored, store};
+ghost use Rattle.rules.specs.Days.{order};
+ghost use Rattle.rules.specs.Text.{readText};
+ghost use Rattle.expanded.specs.Views.{ordered};
+ghost use Rattle.uniform_date.specs.Views.{bits, made, parsed};
+use expanded::Kind;
+use expanded::Ordered;
+use expanded::Packed;
+use scalar::Leading;
+
+pub struct UniformDate {
+    pub raw: Packed,
+}
+
+// A date of given fields.
+pub enum Made {
+    Date(UniformDate),
+    NotOfKind,
+}
+
+// What a text is read as.
+pub enum Parsed {
+    Date(UniformDate),
+    TooLong,
+    NotText,
+}
+
+impl UniformDate {
+    pub const LEAST: UniformDate = UniformDate {
+        raw: Packed {
+            year: -32768,
+            word: 4224,
+        },
+    };
+
+    pub const GREATEST: UniformDate = UniformDate {
+        raw: Packed {
+            year: 32767,
+            word: 52992,
+        },
+    };
+
+    pub fn least() -> UniformDate
+        ensures { λ r. ⌜ bits r ≡ stored (least kU) ⌝ }
+    {
+        UniformDate::LEAST
+    }
+
+    pub fn greatest() -> UniformDate
+        ensures { λ r. ⌜ bits r ≡ stored (greatest kU) ⌝ }
+    {
+        UniformDate::GREATEST
+    }
+
+    pub fn from_ymd_opt(year: i16, month: u8, day: u8) -> Made
+        ensures { λ r. ⌜ made r ≡ store (fromFields kU (record { year = year; month = month; day = day; hour = 0 })) ⌝ }
+    {
+        let made = expanded::make(Kind::Uniform, year, month, day, 0);
+        match made {
+            expanded::Made::Date(raw) => Made::Date(UniformDate { raw }),
+            expanded::Made::None => Made::NotOfKind,
+        }
+    }
+
+    // The four component reads take the bits as they are; every method that gives the date a meaning tests them first.
+    pub fn year(self) -> i16
+        ensures { λ r. ⌜ r ≡ self .raw .year ⌝ }
+    {
+        self.raw.year
+    }
+
+    pub fn month(self) -> u8
+        ensures { λ r. ⌜ r ≡ unpacked (self .raw .year) (self .raw .word) .month ⌝ }
+    {
+        (self.raw.word / 4096) as u8
+    }
+
+    pub fn day(self) -> u8
+        ensures { λ r. ⌜ r ≡ unpacked (self .raw .year) (self .raw .word) .day ⌝ }
+    {
+        (self.raw.word / 128 % 32) as u8
+    }
+
+    pub fn hour(self) -> u8
+        ensures { λ r. ⌜ r ≡ unpacked (self .raw .year) (self .raw .word) .hour ⌝ }
+    {
+        (self.raw.word / 4 % 32) as u8
+    }
+
+    pub fn parse(s: &[u8]) -> Parsed
+        ensures { λ r. ⌜ parsed r ≡ store (readText kU (now (s .entry))) ⌝ }
+    {
+        if reading::TEXT_LIMIT < s.len() {
+            return Parsed::TooLong;
+        }
+        let Leading::Number { value, next } = scalar::to_i64_t(s) else {
+            return Parsed::NotText;
+        };
+        let made = reading::read_rest(Kind::Uniform, s, value, next);
+        match made {
+            expanded::Made::Date(raw) => Parsed::Date(UniformDate { raw }),
+            expanded::Made::None => Parsed::NotText,
+        }
+    }
+
+    pub fn compare(self, other: UniformDate) -> Ordered
+        ensures { λ r. ⌜ ordered r ≡ (handedIn kU (self .raw .year) (self .raw .word) then λ f. handedIn kU (other .raw .year) (other .raw .word) then λ g. Gives (order f g)) ⌝ }
+    {
+        expanded::compare(Kind::Uniform, self.raw, other.raw)
+    }
+}

@@ -182,7 +182,12 @@ impl Date {
     pub fn parse(s: &[u8]) -> Parsed
         ensures { λ r. ⌜ parsed r ≡ store (readText kD (now (s .entry))) ⌝ }
     {
-        Date::plain(s)
+        let fast = fast_date::fast_parse(s);
+        match fast {
+            fast_date::Fast::Date(raw) => Parsed::Date(Date { raw }),
+            fast_date::Fast::NotText => Parsed::NotText,
+            fast_date::Fast::Silent => Date::plain(s),
+        }
     }
 
     // For a field that is declared as a date.

@@ -9,3 +9,8 @@ use Rattle.util.specs.declared.Parsed.the-variants.{Value, NotDigits}
 
 abbrev pub parsed : List ℕ → Parsed
 parsed bs = cond (allDigits bs) (Value (decimalValue bs)) NotDigits
+
+-- the value, for the callers' arithmetic
+abbrev pub valueOf : Parsed → ℕ
+valueOf (Value v) = v
+valueOf NotDigits = 0

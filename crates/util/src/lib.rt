@@ -2,11 +2,11 @@
 ghost use mathlib.Core.Path.{_≡_};
 ghost use mathlib.Core.Bool.{true};
 ghost use mathlib.Core.List.{[], _∷_};
-ghost use Prim.Native.Nat.{_+_, _*_, _^_, _≤_};
+ghost use Prim.Native.Nat.{_+_, _*_, _^_, _≤_, _<_};
 ghost use lib.ListN.{length, take};
 ghost use Rattle.rules.specs.Text.{decimalValue};
 ghost use Rattle.util.specs.Word.{bytesOf, allDigits};
-ghost use Rattle.util.specs.Parse.{parsed};
+ghost use Rattle.util.specs.Parse.{parsed, valueOf};
 
 pub enum Parsed {
     Value(u64),
@@ -71,6 +71,7 @@ fn value_of(word: u64) -> u64
 // Eight digits as one number, or none.
 pub fn fast_digit_parse(word: u64) -> Parsed
     ensures { λ r. ⌜ r ≡ parsed (bytesOf 8 word) ⌝ }
+    ensures { λ r. ⌜ valueOf r < 100000000 ⌝ }
 {
     if is_digits(word) {
         Parsed::Value(value_of(word))

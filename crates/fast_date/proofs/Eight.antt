@@ -1,0 +1,37 @@
+-- What the parse of eight digits tells, and what the fast path's answer tells. Assumes nothing.
+use mathlib.Core.Path.{_≡_, refl, sym}
+use mathlib.Core.Bool.{Bool, true, false, cond}
+use mathlib.Core.List.{List}
+use Prim.Native.Nat.{ℕ}
+use native.Mathlib.Omega.{arith}
+use Rattle.rules.specs.Refusals.{Answer}
+use Rattle.rules.specs.Kinds.{kD, Stored, store}
+use Rattle.rules.specs.Text.{decimalValue, readText}
+use Rattle.util.specs.Word.{allDigits}
+use Rattle.util.specs.Parse.{parsed}
+use Rattle.util.specs.declared.Parsed.{Parsed}
+use Rattle.util.specs.declared.Parsed.the-variants.{Value, NotDigits}
+use Rattle.fast_date.specs.Fast.{fastShape, quickly, Quick, Answers, Silent}
+
+pub parsed-some : (bs : List ℕ) (v : ℕ) → Value v ≡ parsed bs → (allDigits bs ≡ true) × (decimalValue bs ≡ v)
+parsed-some bs v e = split (allDigits bs) e
+  where
+    split : (t : Bool) → Value v ≡ cond t (Value (decimalValue bs)) NotDigits → (t ≡ true) × (decimalValue bs ≡ v)
+    split true p = (refl, cc)
+    split false p = let z : _≡_ {A = ℕ} 0 1 = cc in absurd (omega arith)
+
+pub parsed-none : (bs : List ℕ) → NotDigits ≡ parsed bs → allDigits bs ≡ false
+parsed-none bs e = split (allDigits bs) e
+  where
+    split : (t : Bool) → NotDigits ≡ cond t (Value (decimalValue bs)) NotDigits → t ≡ false
+    split true p = let z : _≡_ {A = ℕ} 0 1 = cc in absurd (omega arith)
+    split false p = refl
+
+-- what the fast path answers is what the plain reader answers
+pub quick-is : (s : List ℕ) (a : Answer Stored) → Answers a ≡ quickly s → a ≡ store (readText kD s)
+unfolding quickly
+quick-is s a e = split (fastShape s) e
+  where
+    split : (t : Bool) → Answers a ≡ cond t (Answers (store (readText kD s))) Silent → a ≡ store (readText kD s)
+    split true p = cc
+    split false p = let z : _≡_ {A = ℕ} 0 1 = cc in absurd (omega arith)

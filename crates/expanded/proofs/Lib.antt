@@ -1,2 +1,4 @@
 pub mod Hours
 pub mod Laws
+pub mod Same
+pub mod Determined

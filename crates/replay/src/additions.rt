@@ -1,0 +1,80 @@
+// Rows `K DATE DAYS DATE`: a date moved by days.
+use crate::Verdict;
+use crate::Way;
+use crate::dates;
+use crate::judge;
+use crate::line;
+use crate::unasked;
+use crate::unread;
+use date::Date;
+use eu5_date::Eu5Date;
+use expanded::Kind;
+use expanded::Made;
+use rows::Said;
+use vic3_date::Vic3Date;
+
+fn date(f: Said, days: i32) -> Said {
+    let Made::Date(raw) = dates::packed(Kind::Date, f) else {
+        return unasked();
+    };
+    let from = Date { raw };
+    let p = from.add_days(days);
+    match p {
+        date::Summed::Date(d) => dates::date(d),
+        date::Summed::NotOfKind => rows::refused(4),
+        date::Summed::Overflow => rows::refused(5),
+        date::Summed::OutOfRange => rows::refused(6),
+    }
+}
+
+fn eu5(f: Said, days: i32) -> Said {
+    let Made::Date(raw) = dates::packed(Kind::Eu5, f) else {
+        return unasked();
+    };
+    let from = Eu5Date { raw };
+    let p = from.add_days(days);
+    match p {
+        eu5_date::Summed::Date(d) => dates::eu5(d),
+        eu5_date::Summed::NotOfKind => rows::refused(4),
+        eu5_date::Summed::Overflow => rows::refused(5),
+        eu5_date::Summed::OutOfRange => rows::refused(6),
+    }
+}
+
+fn vic3(f: Said, days: i32) -> Said {
+    let Made::Date(raw) = dates::packed(Kind::Vic3, f) else {
+        return unasked();
+    };
+    let from = Vic3Date { raw };
+    let p = from.add_days(days);
+    match p {
+        vic3_date::Summed::Date(d) => dates::vic3(d),
+        vic3_date::Summed::NotOfKind => rows::refused(4),
+        vic3_date::Summed::Overflow => rows::refused(5),
+        vic3_date::Summed::OutOfRange => rows::refused(6),
+    }
+}
+
+// What the kind of a letter answers.
+fn asked(kind: u8, f: Said, days: i32) -> Said {
+    match kind {
+        b'D' => date(f, days),
+        b'E' => eu5(f, days),
+        b'V' => vic3(f, days),
+        _ => unasked(),
+    }
+}
+
+pub fn judged(row: &[u8]) -> Verdict {
+    let f = rows::date(row, rows::after(row, 1, b' '));
+    let days = rows::whole32(row, rows::after(row, f.next, b' '));
+    let said = rows::answer(row, rows::after(row, days.next, b' '));
+    judge(row, said, asked(rows::byte(row, 0), f, days.value))
+}
+
+pub fn report(s: &[u8]) {
+    line(Way::Additions, s, b'D', b'a');
+    line(Way::Additions, s, b'E', b'a');
+    line(Way::Additions, s, b'V', b'a');
+    unread(Way::Additions, s);
+}

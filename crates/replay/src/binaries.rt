@@ -1,0 +1,60 @@
+// Rows `K DATE N`: the number of a date.
+use crate::Verdict;
+use crate::Way;
+use crate::asked_number;
+use crate::dates;
+use crate::judge_number;
+use crate::line;
+use crate::unasked_number;
+use crate::unread;
+use date::Date;
+use date_hour::DateHour;
+use expanded::Kind;
+use expanded::Made;
+use number::Written;
+use rows::Said;
+use rows::Whole;
+
+fn number_of(w: Written) -> Whole {
+    match w {
+        Written::Number(n) => asked_number(n),
+        Written::NotOfKind => unasked_number(),
+    }
+}
+
+fn date(f: Said) -> Whole {
+    let Made::Date(raw) = dates::packed(Kind::Date, f) else {
+        return unasked_number();
+    };
+    let from = Date { raw };
+    number_of(from.to_binary())
+}
+
+fn hour(f: Said) -> Whole {
+    let Made::Date(raw) = dates::packed(Kind::Hour, f) else {
+        return unasked_number();
+    };
+    let from = DateHour { raw };
+    number_of(from.to_binary())
+}
+
+// What the kind of a letter answers.
+fn asked(kind: u8, f: Said) -> Whole {
+    match kind {
+        b'D' => date(f),
+        b'H' => hour(f),
+        _ => unasked_number(),
+    }
+}
+
+pub fn judged(row: &[u8]) -> Verdict {
+    let f = rows::date(row, rows::after(row, 1, b' '));
+    let said = rows::whole32(row, rows::after(row, f.next, b' '));
+    judge_number(row, said, asked(rows::byte(row, 0), f))
+}
+
+pub fn report(s: &[u8]) {
+    line(Way::Binaries, s, b'D', b'n');
+    line(Way::Binaries, s, b'H', b'n');
+    unread(Way::Binaries, s);
+}

@@ -1,0 +1,81 @@
+// Rows `K DATE DATE N`: the days from the first date to the second.
+use crate::Verdict;
+use crate::Way;
+use crate::asked_number;
+use crate::dates;
+use crate::judge_number;
+use crate::line;
+use crate::unasked_number;
+use crate::unread;
+use date::Date;
+use day_count::Days;
+use eu5_date::Eu5Date;
+use expanded::Kind;
+use expanded::Made;
+use rows::Said;
+use rows::Whole;
+use vic3_date::Vic3Date;
+
+fn number_of(d: Days) -> Whole {
+    match d {
+        Days::Days(n) => asked_number(n),
+        Days::NotOfKind => unasked_number(),
+    }
+}
+
+fn date(f: Said, g: Said) -> Whole {
+    let Made::Date(raw) = dates::packed(Kind::Date, f) else {
+        return unasked_number();
+    };
+    let from = Date { raw };
+    let Made::Date(other) = dates::packed(Kind::Date, g) else {
+        return unasked_number();
+    };
+    number_of(from.days_until(Date { raw: other }))
+}
+
+fn eu5(f: Said, g: Said) -> Whole {
+    let Made::Date(raw) = dates::packed(Kind::Eu5, f) else {
+        return unasked_number();
+    };
+    let from = Eu5Date { raw };
+    let Made::Date(other) = dates::packed(Kind::Eu5, g) else {
+        return unasked_number();
+    };
+    number_of(from.days_until(Eu5Date { raw: other }))
+}
+
+fn vic3(f: Said, g: Said) -> Whole {
+    let Made::Date(raw) = dates::packed(Kind::Vic3, f) else {
+        return unasked_number();
+    };
+    let from = Vic3Date { raw };
+    let Made::Date(other) = dates::packed(Kind::Vic3, g) else {
+        return unasked_number();
+    };
+    number_of(from.days_until(Vic3Date { raw: other }))
+}
+
+// What the kind of a letter answers.
+fn asked(kind: u8, f: Said, g: Said) -> Whole {
+    match kind {
+        b'D' => date(f, g),
+        b'E' => eu5(f, g),
+        b'V' => vic3(f, g),
+        _ => unasked_number(),
+    }
+}
+
+pub fn judged(row: &[u8]) -> Verdict {
+    let f = rows::date(row, rows::after(row, 1, b' '));
+    let g = rows::date(row, rows::after(row, f.next, b' '));
+    let said = rows::whole32(row, rows::after(row, g.next, b' '));
+    judge_number(row, said, asked(rows::byte(row, 0), f, g))
+}
+
+pub fn report(s: &[u8]) {
+    line(Way::Differences, s, b'D', b'd');
+    line(Way::Differences, s, b'E', b'd');
+    line(Way::Differences, s, b'V', b'd');
+    unread(Way::Differences, s);
+}

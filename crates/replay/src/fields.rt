@@ -1,0 +1,101 @@
+// Rows `K YEAR MONTH DAY HOUR DATE`: the date of given fields. D, U and E are asked without an hour, and their rows have 0 there.
+use crate::Verdict;
+use crate::Way;
+use crate::dates;
+use crate::judge;
+use crate::line;
+use crate::unasked;
+use crate::unread;
+use date::Date;
+use date_hour::DateHour;
+use eu5_date::Eu5Date;
+use raw_date::RawDate;
+use rows::Said;
+use uniform_date::UniformDate;
+use vic3_date::Vic3Date;
+
+fn raw(f: Said) -> Said {
+    let p = RawDate::from_ymdh_opt(f.year, f.month, f.day, f.hour);
+    match p {
+        raw_date::Made::Date(d) => dates::raw(d),
+        raw_date::Made::NotOfKind => rows::refused(4),
+    }
+}
+
+fn date(f: Said) -> Said {
+    if f.hour != 0 {
+        return unasked();
+    }
+    let p = Date::from_ymd_opt(f.year, f.month, f.day);
+    match p {
+        date::Made::Date(d) => dates::date(d),
+        date::Made::NotOfKind => rows::refused(4),
+    }
+}
+
+fn hour(f: Said) -> Said {
+    let p = DateHour::from_ymdh_opt(f.year, f.month, f.day, f.hour);
+    match p {
+        date_hour::Made::Date(d) => dates::hour(d),
+        date_hour::Made::NotOfKind => rows::refused(4),
+    }
+}
+
+fn uniform(f: Said) -> Said {
+    if f.hour != 0 {
+        return unasked();
+    }
+    let p = UniformDate::from_ymd_opt(f.year, f.month, f.day);
+    match p {
+        uniform_date::Made::Date(d) => dates::uniform(d),
+        uniform_date::Made::NotOfKind => rows::refused(4),
+    }
+}
+
+fn eu5(f: Said) -> Said {
+    if f.hour != 0 {
+        return unasked();
+    }
+    let p = Eu5Date::from_ymd_opt(f.year, f.month, f.day);
+    match p {
+        eu5_date::Made::Date(d) => dates::eu5(d),
+        eu5_date::Made::NotOfKind => rows::refused(4),
+    }
+}
+
+fn vic3(f: Said) -> Said {
+    let p = Vic3Date::from_ymdh_opt(f.year, f.month, f.day, f.hour);
+    match p {
+        vic3_date::Made::Date(d) => dates::vic3(d),
+        vic3_date::Made::NotOfKind => rows::refused(4),
+    }
+}
+
+// What the kind of a letter answers.
+fn asked(kind: u8, f: Said) -> Said {
+    match kind {
+        b'R' => raw(f),
+        b'D' => date(f),
+        b'H' => hour(f),
+        b'U' => uniform(f),
+        b'E' => eu5(f),
+        b'V' => vic3(f),
+        _ => unasked(),
+    }
+}
+
+pub fn judged(row: &[u8]) -> Verdict {
+    let f = rows::date(row, rows::after(row, 1, b' '));
+    let said = rows::answer(row, rows::after(row, f.next, b' '));
+    judge(row, said, asked(rows::byte(row, 0), f))
+}
+
+pub fn report(s: &[u8]) {
+    line(Way::Fields, s, b'R', b'f');
+    line(Way::Fields, s, b'D', b'f');
+    line(Way::Fields, s, b'H', b'f');
+    line(Way::Fields, s, b'U', b'f');
+    line(Way::Fields, s, b'E', b'f');
+    line(Way::Fields, s, b'V', b'f');
+    unread(Way::Fields, s);
+}

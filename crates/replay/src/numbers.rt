@@ -1,0 +1,137 @@
+// Rows `K b N DATE` and `K g N DATE`: the full decoder and the guess.
+use crate::Verdict;
+use crate::Way;
+use crate::dates;
+use crate::judge;
+use crate::line;
+use crate::unasked;
+use crate::unread;
+use date::Date;
+use date_hour::DateHour;
+use eu5_date::Eu5Date;
+use raw_date::RawDate;
+use rows::Said;
+use vic3_date::Vic3Date;
+
+fn raw(n: i32) -> Said {
+    let p = RawDate::from_binary(n);
+    match p {
+        raw_date::Decoded::Date(d) => dates::raw(d),
+        raw_date::Decoded::NotNumber => rows::refused(3),
+    }
+}
+
+fn date(n: i32) -> Said {
+    let p = Date::from_binary(n);
+    match p {
+        date::Decoded::Date(d) => dates::date(d),
+        date::Decoded::NotNumber => rows::refused(3),
+    }
+}
+
+fn hour(n: i32) -> Said {
+    let p = DateHour::from_binary(n);
+    match p {
+        date_hour::Decoded::Date(d) => dates::hour(d),
+        date_hour::Decoded::NotNumber => rows::refused(3),
+    }
+}
+
+fn eu5(n: i32) -> Said {
+    let p = Eu5Date::from_binary(n);
+    match p {
+        eu5_date::Decoded::Date(d) => dates::eu5(d),
+        eu5_date::Decoded::NotNumber => rows::refused(3),
+    }
+}
+
+fn vic3(n: i32) -> Said {
+    let p = Vic3Date::from_binary(n);
+    match p {
+        vic3_date::Decoded::Date(d) => dates::vic3(d),
+        vic3_date::Decoded::NotNumber => rows::refused(3),
+    }
+}
+
+fn date_guess(n: i32) -> Said {
+    let p = Date::from_binary_heuristic(n);
+    match p {
+        date::Guessed::Date(d) => dates::date(d),
+        date::Guessed::NotNumber => rows::refused(3),
+    }
+}
+
+fn hour_guess(n: i32) -> Said {
+    let p = DateHour::from_binary_heuristic(n);
+    match p {
+        date_hour::Guessed::Date(d) => dates::hour(d),
+        date_hour::Guessed::NotNumber => rows::refused(3),
+    }
+}
+
+fn eu5_guess(n: i32) -> Said {
+    let p = Eu5Date::from_binary_heuristic(n);
+    match p {
+        eu5_date::Guessed::Date(d) => dates::eu5(d),
+        eu5_date::Guessed::NotNumber => rows::refused(3),
+    }
+}
+
+fn vic3_guess(n: i32) -> Said {
+    let p = Vic3Date::from_binary_heuristic(n);
+    match p {
+        vic3_date::Guessed::Date(d) => dates::vic3(d),
+        vic3_date::Guessed::NotNumber => rows::refused(3),
+    }
+}
+
+// The full decoder of the kind of a letter.
+fn decoded(kind: u8, n: i32) -> Said {
+    match kind {
+        b'R' => raw(n),
+        b'D' => date(n),
+        b'H' => hour(n),
+        b'E' => eu5(n),
+        b'V' => vic3(n),
+        _ => unasked(),
+    }
+}
+
+// The guess of the kind of a letter.
+fn guessed(kind: u8, n: i32) -> Said {
+    match kind {
+        b'D' => date_guess(n),
+        b'H' => hour_guess(n),
+        b'E' => eu5_guess(n),
+        b'V' => vic3_guess(n),
+        _ => unasked(),
+    }
+}
+
+fn asked(kind: u8, way: u8, n: i32) -> Said {
+    match way {
+        b'b' => decoded(kind, n),
+        b'g' => guessed(kind, n),
+        _ => unasked(),
+    }
+}
+
+pub fn judged(row: &[u8]) -> Verdict {
+    let way = rows::byte(row, rows::after(row, 1, b' '));
+    let n = rows::whole32(row, rows::after(row, 3, b' '));
+    let said = rows::answer(row, rows::after(row, n.next, b' '));
+    judge(row, said, asked(rows::byte(row, 0), way, n.value))
+}
+
+pub fn report(s: &[u8]) {
+    line(Way::Numbers, s, b'R', b'b');
+    line(Way::Numbers, s, b'D', b'b');
+    line(Way::Numbers, s, b'D', b'g');
+    line(Way::Numbers, s, b'H', b'b');
+    line(Way::Numbers, s, b'H', b'g');
+    line(Way::Numbers, s, b'E', b'b');
+    line(Way::Numbers, s, b'E', b'g');
+    line(Way::Numbers, s, b'V', b'b');
+    line(Way::Numbers, s, b'V', b'g');
+    unread(Way::Numbers, s);
+}

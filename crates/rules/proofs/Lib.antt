@@ -5,6 +5,7 @@ pub mod CalendarLaws
 pub mod KindLaws
 pub mod OrderLaws
 pub mod PackLaws
+pub mod LengthLaws
 pub mod NumberLaws
 pub mod NumberBack
 pub mod DayLaws

@@ -6,6 +6,8 @@ pub mod KindLaws
 pub mod OrderLaws
 pub mod PackLaws
 pub mod LengthLaws
+pub mod DigitLaws
+pub mod TextBack
 pub mod NumberLaws
 pub mod NumberBack
 pub mod DayLaws

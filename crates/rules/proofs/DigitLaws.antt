@@ -1,26 +1,27 @@
--- Digits read back: the leading digits of a text and their value, one or two digits, and those of a number in decimal. Assumes nothing.
+-- Digits read: those that a text starts with, their value, its leading number; one digit or two; and a number's own decimal read back.
+-- Assumes nothing.
 use mathlib.Core.Path.{_≡_, refl}
 use mathlib.Core.Bool.{Bool, true, false, not}
 use mathlib.Core.List.{List, [], _∷_, _++_}
-use Prim.Native.Nat.{ℕ, suc, _+_, _*_, _/_, _%_, _^_, _<_}
+use Prim.Native.Nat.{ℕ, suc, _+_, _*_, _/_, _%_, _^_, _≤_, _<_}
 use native.Mathlib.Nat.{pow-succ', mul-left-comm}
 use native.Mathlib.Omega.{arith}
-use borrow.Author.Tests.{not-true, ltb-true, ltb-false}
-use lib.Dec.{ltb}
+use borrow.Author.Tests.{not-true, ne-eqb, ltb-true, ltb-false}
+use lib.Dec.{ltb, eqb}
+use lib.IntN.{pos}
 use lib.ListN.{length, length-append}
 use Rattle.rules.specs.Refusals.{Gives}
 use Rattle.rules.specs.Spelling.{digit, decimal, filled}
-use Rattle.rules.specs.Text.{isDigit, digitValue, digits, afterDigits, decimalValue, secondDigit, oneOrTwo}
+use Rattle.rules.specs.Text.{isDigit, digitValue, digits, afterDigits, decimalValue, leading, secondDigit, oneOrTwo}
 use Rattle.rules.proofs.DecimalLaws.{by-digits, one-digit, two-digits, filled-two}
-use Rattle.rules.proofs.KindLaws.{yes-within}
+use Rattle.rules.proofs.KindLaws.{low, yes-within}
 
--- ---- texts of digits
+-- ---- texts of digits, and texts that start with none
 
-pub data AllDigits : List ℕ → Type 0 where
-  none : AllDigits []
-  next : {b : ℕ} {s : List ℕ} → isDigit b ≡ true → AllDigits s → AllDigits (b ∷ s)
+pub data OnlyDigits : List ℕ → Type 0 where
+  none : OnlyDigits []
+  next : {b : ℕ} {s : List ℕ} → isDigit b ≡ true → OnlyDigits s → OnlyDigits (b ∷ s)
 
--- a text that starts with no digit
 abbrev pub noDigit : List ℕ → Bool
 noDigit [] = true
 noDigit (b ∷ s) = not (isDigit b)
@@ -28,25 +29,37 @@ noDigit (b ∷ s) = not (isDigit b)
 is-digit : (d : ℕ) → d < 10 → isDigit (digit d) ≡ true
 is-digit d h = yes-within 48 57 (digit d) (omega arith) (omega arith)
 
-then-digit : {s : List ℕ} (b : ℕ) → AllDigits s → isDigit b ≡ true → AllDigits (s ++ b ∷ [])
+then-digit : {s : List ℕ} (b : ℕ) → OnlyDigits s → isDigit b ≡ true → OnlyDigits (s ++ b ∷ [])
 then-digit b none e = next e none
 then-digit b (next d ds) e = next d (then-digit b ds e)
 
 -- ---- digits at the front of a text
 
-pub digits-front : {s : List ℕ} (r : List ℕ) → AllDigits s → noDigit r ≡ true → digits (s ++ r) ≡ s
+pub digits-front : {s : List ℕ} (r : List ℕ) → OnlyDigits s → noDigit r ≡ true → digits (s ++ r) ≡ s
 unfolding digits
 digits-front [] none e = refl
 digits-front (b ∷ r) none e = rw (not-true (isDigit b) e)
-digits-front r (next {b} d ds) e = rw (d, digits-front r ds e)
+digits-front r (next d ds) e = rw (d, digits-front r ds e)
 
-pub digits-after : {s : List ℕ} (r : List ℕ) → AllDigits s → noDigit r ≡ true → afterDigits (s ++ r) ≡ r
+pub digits-after : {s : List ℕ} (r : List ℕ) → OnlyDigits s → noDigit r ≡ true → afterDigits (s ++ r) ≡ r
 unfolding afterDigits
 digits-after [] none e = refl
 digits-after (b ∷ r) none e = rw (not-true (isDigit b) e)
 digits-after r (next d ds) e = rw (d, digits-after r ds e)
 
--- one digit more
+-- a digit is no sign
+pub no-sign : (b sign : ℕ) → isDigit b ≡ true → sign < 48 → eqb b sign ≡ false
+no-sign b sign d h = let l = low 48 57 b d in ne-eqb b sign (λ e. omega arith)
+
+-- digits that a text starts with are its leading number
+pub lead-digits : {s : List ℕ} (r : List ℕ) → OnlyDigits s → 1 ≤ length s → noDigit r ≡ true →
+    leading (s ++ r) ≡ Gives (record { value = pos (decimalValue s); rest = r })
+unfolding leading
+lead-digits r none h e = absurd (omega arith)
+lead-digits r (next {b} d ds) h e =
+    rw (no-sign b 45 d (omega arith), no-sign b 43 d (omega arith), d, digits-front r (next d ds) e, digits-after r (next d ds) e)
+
+-- the value of digits, and of one digit more
 value-more : (s : List ℕ) (b : ℕ) → decimalValue (s ++ b ∷ []) ≡ decimalValue s * 10 + digitValue b
 unfolding decimalValue
 value-more [] b = omega arith
@@ -58,9 +71,9 @@ value-more (c ∷ s) b =
 
 -- ---- a number in decimal
 
-pub decimal-digits : (n : ℕ) → n < 10 ^ 20 → AllDigits (decimal n)
+pub decimal-digits : (n : ℕ) → n < 10 ^ 20 → OnlyDigits (decimal n)
 decimal-digits =
-    by-digits (λ n l. AllDigits l) (λ n h. next (is-digit n h) none) (λ n l h ds. then-digit (digit (n % 10)) ds (is-digit (n % 10) (omega arith)))
+    by-digits (λ n l. OnlyDigits l) (λ n h. next (is-digit n h) none) (λ n l h ds. then-digit (digit (n % 10)) ds (is-digit (n % 10) (omega arith)))
 
 pub decimal-value : (n : ℕ) → n < 10 ^ 20 → decimalValue (decimal n) ≡ n
 unfolding decimalValue
@@ -79,7 +92,8 @@ read-two n r h =
     let v : digitValue (digit (n / 10)) * 10 + digitValue (digit (n % 10)) ≡ n = omega arith in
     rw (is-digit (n / 10) (omega arith), is-digit (n % 10) (omega arith), v)
 
-pub read-decimal : (n : ℕ) (r : List ℕ) → n < 100 → noDigit r ≡ true → oneOrTwo (decimal n ++ r) ≡ Gives (record { value = n; rest = r })
+pub read-decimal : (n : ℕ) (r : List ℕ) → n < 100 → noDigit r ≡ true →
+    oneOrTwo (decimal n ++ r) ≡ Gives (record { value = n; rest = r })
 read-decimal n r h e = split (ltb n 10) refl
   where
     split : (t : Bool) → ltb n 10 ≡ t → oneOrTwo (decimal n ++ r) ≡ Gives (record { value = n; rest = r })

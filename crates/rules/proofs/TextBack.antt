@@ -13,25 +13,14 @@ use Rattle.rules.specs.Words.{bytes, byte}
 use Rattle.rules.specs.Refusals.{Gives, notText}
 use Rattle.rules.specs.Kinds.{Kind, kR, kD, kH, kU, kE, kV, Fields, hourFits, ofKind, settledHour, made, settled}
 use Rattle.rules.specs.Spelling.{digit, decimal, plainYear, dottedPair, dottedHour, dotted}
-use Rattle.rules.specs.Text.{isDigit, decimalValue, leading, oneOrTwo, afterDot, notZeroFirst, hourAfter, dottedPart, startsWithPlus, shapeAllowed, textLimit, textFields, readText}
+use Rattle.rules.specs.Text.{leading, oneOrTwo, afterDot, notZeroFirst, hourAfter, dottedPart, startsWithPlus, shapeAllowed, textLimit, textFields, readText}
 use Rattle.rules.proofs.DecimalLaws.{one-digit, two-digits, digits-least}
-use Rattle.rules.proofs.DigitLaws.{AllDigits, none, next, noDigit, digits-front, digits-after, decimal-digits, decimal-value, read-decimal, read-filled}
-use Rattle.rules.proofs.KindLaws.{fit, low, high, yes-within}
+use Rattle.rules.proofs.DigitLaws.{OnlyDigits, none, next, noDigit, no-sign, lead-digits, digits-front, digits-after, decimal-digits, decimal-value, read-decimal, read-filled}
+use Rattle.rules.proofs.KindLaws.{fit, high, yes-within}
 use Rattle.rules.proofs.OrderLaws.{day-small, hour-small}
 use Rattle.rules.proofs.LengthLaws.{text-lengths, dotted-size}
 
 -- ---- the year
-
--- a text that starts with a digit has no sign
-no-sign : (b sign : ℕ) → isDigit b ≡ true → sign < 48 → eqb b sign ≡ false
-no-sign b sign d h = let l = low 48 57 b d in ne-eqb b sign (λ e. omega arith)
-
-lead-digits : {s : List ℕ} (r : List ℕ) → AllDigits s → 1 ≤ length s → noDigit r ≡ true →
-    leading (s ++ r) ≡ Gives (record { value = pos (decimalValue s); rest = r })
-unfolding leading
-lead-digits r none h e = absurd (omega arith)
-lead-digits r (next {b} {s} d ds) h e =
-    rw (no-sign b 45 d (omega arith), no-sign b 43 d (omega arith), d, digits-front r (next d ds) e, digits-after r (next d ds) e)
 
 -- the leading number of a text that starts with a year
 lead-year : (y : ℤ) (r : List ℕ) → dn y ≤ 32768 → up y ≤ 32767 → noDigit r ≡ true →
@@ -44,7 +33,7 @@ lead-year (negsuc n) r a b e =
     let h : suc n < 10 ^ 20 = omega arith in
     rw (digits-front r (decimal-digits (suc n) h) e, digits-after r (decimal-digits (suc n) h) e, decimal-value (suc n) h)
 
-digits-no-plus : {s : List ℕ} (r : List ℕ) → AllDigits s → 1 ≤ length s → startsWithPlus (s ++ r) ≡ false
+digits-no-plus : {s : List ℕ} (r : List ℕ) → OnlyDigits s → 1 ≤ length s → startsWithPlus (s ++ r) ≡ false
 digits-no-plus r none h = absurd (omega arith)
 digits-no-plus r (next {b} d ds) h = no-sign b 43 d (omega arith)
 

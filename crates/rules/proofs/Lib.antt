@@ -1,6 +1,7 @@
 pub mod Table
 pub mod Rests
 pub mod DecimalLaws
+pub mod WriteLaws
 pub mod CalendarLaws
 pub mod KindLaws
 pub mod OrderLaws

@@ -1,6 +1,6 @@
 -- What a test of month, day and hour decides, for a year of 16 bits. Assumes nothing.
 use mathlib.Core.Path.{_≡_, refl, sym, ap, _∙_}
-use mathlib.Core.Bool.{Bool, true, false, _&&_}
+use mathlib.Core.Bool.{Bool, true, false, _&&_, and-false}
 use Prim.Native.Nat.{ℕ, _+_, _*_, _/_, _%_, _≤_, _<_}
 use native.Mathlib.Omega.{arith}
 use borrow.Author.Tests.{eq-eqb, ne-eqb}
@@ -52,11 +52,7 @@ handed-is k y w h f e = rw (eq-eqb (w % 4) 0 (omega arith)) (made-is k notOfKind
 -- fields that do not fit are refused, whatever the year
 pub handed-not : (k : Kind) (y : ℤ) (w : ℕ) → w % 4 ≤ 0 → fitsKind k (w / 4096) (w / 128 % 32) (w / 4 % 32) ≡ false → handedIn k y w ≡ Refused notOfKind
 unfolding handedIn made ofKind
-handed-not k y w h e = rw (eq-eqb (w % 4) 0 (omega arith), e) (none (fits16 y))
-  where
-    none : (t : Bool) → demand (t && false) notOfKind (Gives (unpacked y w)) ≡ Refused notOfKind
-    none true = refl
-    none false = refl
+handed-not k y w h e = rw (eq-eqb (w % 4) 0 (omega arith), e, and-false (fits16 y))
 
 -- ---- two dates handed in, in order
 

@@ -1,6 +1,6 @@
 -- A whole text, by the steps of each kind's reader: its length, its shape, its leading number, the rest. Assumes nothing.
 use mathlib.Core.Path.{_≡_, refl, sym, ap, _∙_}
-use mathlib.Core.Bool.{Bool, true, false, _&&_}
+use mathlib.Core.Bool.{Bool, true, false, _&&_, and-false}
 use mathlib.Core.List.{List, [], _∷_}
 use Prim.Native.Nat.{ℕ, _≤_, _<_, _^_}
 use native.Mathlib.Omega.{arith}
@@ -82,10 +82,6 @@ year-out : (k : Kind) {y : ℤ} {x : Answer Fields} → OfYear y x → fits16 y 
 unfolding settled made ofKind
 year-out k (dated m d h) e = rw e
 year-out k none e = refl
-
-and-false : (t : Bool) → t && false ≡ false
-and-false true = refl
-and-false false = refl
 
 text-out : (k : Kind) (y : ℤ) (rest : List ℕ) → fits16 y ≡ false → fits32 y ≡ false →
     (textFields k (record { value = y; rest = rest }) then λ f. settled k notText f) ≡ Refused notText

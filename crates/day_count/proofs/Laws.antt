@@ -1,23 +1,28 @@
 -- The steps of counting days, over the halves of each number: a day number, the date of one, what a sum's tests decide; and what a
 -- date of a kind that counts days has. Assumes nothing.
-use mathlib.Core.Path.{_≡_}
+use mathlib.Core.Path.{_≡_, sym, ap, _∙_}
 use mathlib.Core.Bool.{true, false}
 use Prim.Native.Nat.{ℕ, _+_, _-_, _*_, _/_, _%_, _≤_, _<_}
 use native.Mathlib.Omega.{arith}
 use lib.IntN.{ℤ, pos, natAbs, subℕ, _+ℤ_, _-ℤ_}
 use lib.Signed.{leZ, quotZ, remZ}
+use mir.Syntax.{w32}
+use mir.Val.{toZ, ofZ, SFits}
+use mir.Facts.{toZ-ofZ}
 use Rattle.sign.specs.Halves.{up, dn, Halved}
 use Rattle.sign.proofs.Laws.{same, ints, one-side, yes-lt, no-lt, yes-le, no-le}
 use Rattle.rules.specs.Words.{minus}
 use Rattle.rules.specs.Refusals.{Answer, Gives, Refused, _then_, given, notOfKind, sumOverflows, outOfRange}
 use Rattle.rules.specs.Calendar.{monthDay, monthLength}
 use Rattle.rules.specs.Kinds.{Kind, kR, kD, kH, kU, kE, kV, Fields, ofKind, packed, unpacked, handedIn, Stored, stored, store}
-use Rattle.rules.specs.Days.{dayNumberAt, countsDays, dayFields, summed, summedHour, hasStart, startOfDay}
+use Rattle.rules.specs.Days.{addDays, dayNumberAt, countsDays, dayFields, summed, summedHour, hasStart, startOfDay}
 use Rattle.rules.proofs.KindLaws.{fit, month-fits}
 use Rattle.rules.proofs.OrderLaws.{hour-small}
 use Rattle.rules.proofs.PackLaws.{handed-tells}
 use Rattle.rules.proofs.DayLaws.{counter, summed-in}
 use Rattle.expanded.proofs.Laws.{handed-by}
+use Rattle.day_count.specs.declared.Sum.{Sum}
+use Rattle.day_count.specs.Views.{summedAs}
 
 -- a number by its halves and their bounds
 halved : {top : ℕ} (z : ℤ) {u d : ℕ} → up z ≡ u → dn z ≡ d → u ≤ top → d ≤ top + 1 → Halved top z u d
@@ -140,3 +145,10 @@ module _ (k : Kind) (y : ℤ) (w : ℕ) where
 
   pub start-refused : given (handedIn k y w) ≡ false → start ≡ Refused notOfKind
   start-refused e = rw (handed-by k y w e)
+
+-- ---- a kind's answer, from the core's: the days come to it as 32 bits
+
+pub sum-told : (k : Kind) (y : ℤ) (w : ℕ) {days : ℤ} {sum r : Sum} → SFits w32 days →
+    summedAs sum ≡ store (handedIn k y w then λ f. addDays k f (toZ w32 (ofZ w32 days))) → sum ≡ r →
+    summedAs r ≡ store (handedIn k y w then λ f. addDays k f days)
+sum-told k y w fits is same = ap summedAs (sym same) ∙ (rw (toZ-ofZ fits) at is)

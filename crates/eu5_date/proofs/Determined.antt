@@ -1,111 +1,44 @@
 -- Each answer is determined: two that a contract allows are equal, since the view that the contract names can be read back.
 -- Assumes nothing.
-use mathlib.Core.Path.{_≡_, refl}
-use mathlib.Core.Bool.{cond}
-use lib.Dec.{eqb}
-use Rattle.rules.specs.Refusals.{Answer, Gives, Refused, RefusedAt}
-use Prim.Native.Nat.{ℕ}
+use mathlib.Core.Path.{refl}
 use Rattle.rules.specs.Kinds.{Stored}
-use Rattle.expanded.proofs.Same.{determined}
-use Rattle.eu5_date.specs.declared.Made.{Made}
+use Rattle.rules.proofs.ReadBack.{Determines, determined, backOne, backText, backSum}
+use Rattle.expanded.proofs.Determined.{packedOf}
+use Rattle.eu5_date.specs.declared.Eu5Date.{Eu5Date}
 use Rattle.eu5_date.specs.declared.Made.the-variants as M
-use Rattle.eu5_date.specs.declared.Parsed.{Parsed}
 use Rattle.eu5_date.specs.declared.Parsed.the-variants as P
-use Rattle.eu5_date.specs.declared.Decoded.{Decoded}
 use Rattle.eu5_date.specs.declared.Decoded.the-variants as D
-use Rattle.eu5_date.specs.declared.Guessed.{Guessed}
 use Rattle.eu5_date.specs.declared.Guessed.the-variants as G
-use Rattle.eu5_date.specs.declared.Summed.{Summed}
 use Rattle.eu5_date.specs.declared.Summed.the-variants as S
-use Rattle.eu5_date.specs.declared.Started.{Started}
 use Rattle.eu5_date.specs.declared.Started.the-variants as T
-use Rattle.eu5_date.specs.declared.InGame.{InGame}
 use Rattle.eu5_date.specs.declared.InGame.the-variants as I
-use Rattle.eu5_date.specs.Views.{made, parsed, decoded, guessed, summed, started, inGame}
+use Rattle.eu5_date.specs.Views.{bits, made, parsed, decoded, guessed, summed, started, inGame}
 
-abbrev madeBack : Answer Stored → Made
-madeBack (Gives d) = M.Date (record { raw = record { year = d .year; word = d .word } })
-madeBack (Refused n) = M.NotOfKind
-madeBack (RefusedAt n place) = M.NotOfKind
+abbrev dated : Stored → Eu5Date
+dated d = record { raw = packedOf d }
 
-made-back : (r : Made) → madeBack (made r) ≡ r
-made-back (M.Date d) = refl
-made-back M.NotOfKind = refl
+pub bits-determined : Determines bits
+bits-determined = determined bits dated (λ d. refl)
 
-pub made-determined : {x : Answer Stored} (r s : Made) → made r ≡ x → made s ≡ x → r ≡ s
-made-determined r s e f = determined made madeBack made-back r s e f
+pub made-determined : Determines made
+made-determined = determined made (backOne (λ d. M.Date (dated d)) M.NotOfKind) (λ r. elim r [ M.Date d ↦ refl | M.NotOfKind ↦ refl ])
 
-abbrev parsedBack : Answer Stored → Parsed
-parsedBack (Gives d) = P.Date (record { raw = record { year = d .year; word = d .word } })
-parsedBack (Refused n) = cond (eqb n 1) P.TooLong P.NotText
-parsedBack (RefusedAt n place) = P.NotText
+pub parsed-determined : Determines parsed
+parsed-determined = determined parsed (backText (λ d. P.Date (dated d)) P.TooLong P.NotText)
+    (λ r. elim r [ P.Date d ↦ refl | P.TooLong ↦ refl | P.NotText ↦ refl ])
 
-parsed-back : (r : Parsed) → parsedBack (parsed r) ≡ r
-parsed-back (P.Date d) = refl
-parsed-back P.TooLong = refl
-parsed-back P.NotText = refl
+pub decoded-determined : Determines decoded
+decoded-determined = determined decoded (backOne (λ d. D.Date (dated d)) D.NotNumber) (λ r. elim r [ D.Date d ↦ refl | D.NotNumber ↦ refl ])
 
-pub parsed-determined : {x : Answer Stored} (r s : Parsed) → parsed r ≡ x → parsed s ≡ x → r ≡ s
-parsed-determined r s e f = determined parsed parsedBack parsed-back r s e f
+pub guessed-determined : Determines guessed
+guessed-determined = determined guessed (backOne (λ d. G.Date (dated d)) G.NotNumber) (λ r. elim r [ G.Date d ↦ refl | G.NotNumber ↦ refl ])
 
-abbrev decodedBack : Answer Stored → Decoded
-decodedBack (Gives d) = D.Date (record { raw = record { year = d .year; word = d .word } })
-decodedBack (Refused n) = D.NotNumber
-decodedBack (RefusedAt n place) = D.NotNumber
+pub summed-determined : Determines summed
+summed-determined = determined summed (backSum (λ d. S.Date (dated d)) S.NotOfKind S.Overflow S.OutOfRange)
+    (λ r. elim r [ S.Date d ↦ refl | S.NotOfKind ↦ refl | S.Overflow ↦ refl | S.OutOfRange ↦ refl ])
 
-decoded-back : (r : Decoded) → decodedBack (decoded r) ≡ r
-decoded-back (D.Date d) = refl
-decoded-back D.NotNumber = refl
+pub started-determined : Determines started
+started-determined = determined started (backOne (λ d. T.Date (dated d)) T.NotOfKind) (λ r. elim r [ T.Date d ↦ refl | T.NotOfKind ↦ refl ])
 
-pub decoded-determined : {x : Answer Stored} (r s : Decoded) → decoded r ≡ x → decoded s ≡ x → r ≡ s
-decoded-determined r s e f = determined decoded decodedBack decoded-back r s e f
-
-abbrev guessedBack : Answer Stored → Guessed
-guessedBack (Gives d) = G.Date (record { raw = record { year = d .year; word = d .word } })
-guessedBack (Refused n) = G.NotNumber
-guessedBack (RefusedAt n place) = G.NotNumber
-
-guessed-back : (r : Guessed) → guessedBack (guessed r) ≡ r
-guessed-back (G.Date d) = refl
-guessed-back G.NotNumber = refl
-
-pub guessed-determined : {x : Answer Stored} (r s : Guessed) → guessed r ≡ x → guessed s ≡ x → r ≡ s
-guessed-determined r s e f = determined guessed guessedBack guessed-back r s e f
-
-abbrev summedBack : Answer Stored → Summed
-summedBack (Gives d) = S.Date (record { raw = record { year = d .year; word = d .word } })
-summedBack (Refused n) = cond (eqb n 4) S.NotOfKind (cond (eqb n 5) S.Overflow S.OutOfRange)
-summedBack (RefusedAt n place) = S.OutOfRange
-
-summed-back : (r : Summed) → summedBack (summed r) ≡ r
-summed-back (S.Date d) = refl
-summed-back S.NotOfKind = refl
-summed-back S.Overflow = refl
-summed-back S.OutOfRange = refl
-
-pub summed-determined : {x : Answer Stored} (r s : Summed) → summed r ≡ x → summed s ≡ x → r ≡ s
-summed-determined r s e f = determined summed summedBack summed-back r s e f
-
-abbrev startedBack : Answer Stored → Started
-startedBack (Gives d) = T.Date (record { raw = record { year = d .year; word = d .word } })
-startedBack (Refused n) = T.NotOfKind
-startedBack (RefusedAt n place) = T.NotOfKind
-
-started-back : (r : Started) → startedBack (started r) ≡ r
-started-back (T.Date d) = refl
-started-back T.NotOfKind = refl
-
-pub started-determined : {x : Answer Stored} (r s : Started) → started r ≡ x → started s ≡ x → r ≡ s
-started-determined r s e f = determined started startedBack started-back r s e f
-
-abbrev inGameBack : Answer ℕ → InGame
-inGameBack (Gives d) = I.Hour d
-inGameBack (Refused n) = I.NotOfKind
-inGameBack (RefusedAt n place) = I.NotOfKind
-
-inGame-back : (r : InGame) → inGameBack (inGame r) ≡ r
-inGame-back (I.Hour d) = refl
-inGame-back I.NotOfKind = refl
-
-pub inGame-determined : {x : Answer ℕ} (r s : InGame) → inGame r ≡ x → inGame s ≡ x → r ≡ s
-inGame-determined r s e f = determined inGame inGameBack inGame-back r s e f
+pub inGame-determined : Determines inGame
+inGame-determined = determined inGame (backOne I.Hour I.NotOfKind) (λ r. elim r [ I.Hour h ↦ refl | I.NotOfKind ↦ refl ])

@@ -1,55 +1,41 @@
 -- Each answer is determined: two that a contract allows are equal, since the view that the contract names can be read back.
 -- Assumes nothing.
-use mathlib.Core.Path.{_≡_, refl}
+use mathlib.Core.Path.{refl}
 use Prim.Native.Nat.{ℕ}
-use Rattle.rules.specs.Refusals.{Answer, Gives, Refused, RefusedAt}
 use Rattle.rules.specs.Kinds.{Fields, Stored}
 use Rattle.rules.specs.Days as D
-use Rattle.expanded.specs.declared.Made.{Made}
+use Rattle.rules.specs.Refusals.{notOfKind}
+use Rattle.rules.proofs.ReadBack.{Determines, DeterminesEach, determined, determined-at, backOne}
+use Rattle.expanded.specs.declared.ExpandedRawDate.{ExpandedRawDate}
+use Rattle.expanded.specs.declared.Packed.{Packed}
 use Rattle.expanded.specs.declared.Made.the-variants as M
-use Rattle.expanded.specs.declared.Opened.{Opened}
 use Rattle.expanded.specs.declared.Opened.the-variants as O
 use Rattle.expanded.specs.declared.Ordered.{Ordered}
 use Rattle.expanded.specs.declared.Ordered.the-variants as R
 use Rattle.expanded.specs.Views.{answer, opened, ordered}
-use Rattle.expanded.proofs.Same.{determined}
 
-abbrev answerBack : Answer Stored → Made
-answerBack (Gives d) = M.Date (record { year = d .year; word = d .word })
-answerBack (Refused n) = M.None
-answerBack (RefusedAt n place) = M.None
+-- the code's structs of what `rules` has: the way back of `bitsOf` and `fieldsOf`
+abbrev pub packedOf : Stored → Packed
+packedOf d = record { year = d .year; word = d .word }
 
-answer-back : (n : ℕ) (r : Made) → answerBack (answer n r) ≡ r
-answer-back n (M.Date d) = refl
-answer-back n M.None = refl
+abbrev pub expandedOf : Fields → ExpandedRawDate
+expandedOf f = record { year = f .year; month = f .month; day = f .day; hour = f .hour }
 
-pub answer-determined : (n : ℕ) {x : Answer Stored} (r s : Made) → answer n r ≡ x → answer n s ≡ x → r ≡ s
-answer-determined n r s e f = determined (answer n) answerBack (answer-back n) r s e f
+pub answer-determined : (n : ℕ) → Determines (answer n)
+answer-determined n = determined (answer n) (backOne (λ d. M.Date (packedOf d)) M.None) (λ r. elim r [ M.Date d ↦ refl | M.None ↦ refl ])
 
-abbrev openedBack : Answer Fields → Opened
-openedBack (Gives f) = O.Fields (record { year = f .year; month = f .month; day = f .day; hour = f .hour })
-openedBack (Refused n) = O.NotOfKind
-openedBack (RefusedAt n place) = O.NotOfKind
+pub answers-determined : DeterminesEach answer
+answers-determined = determined-at answer notOfKind (answer-determined notOfKind)
 
-opened-back : (r : Opened) → openedBack (opened r) ≡ r
-opened-back (O.Fields f) = refl
-opened-back O.NotOfKind = refl
+pub opened-determined : Determines opened
+opened-determined = determined opened (backOne (λ f. O.Fields (expandedOf f)) O.NotOfKind)
+    (λ r. elim r [ O.Fields f ↦ refl | O.NotOfKind ↦ refl ])
 
-pub opened-determined : {x : Answer Fields} (r s : Opened) → opened r ≡ x → opened s ≡ x → r ≡ s
-opened-determined r s e f = determined opened openedBack opened-back r s e f
+abbrev orderBack : D.Order → Ordered
+orderBack D.Before = R.Before
+orderBack D.Same = R.Same
+orderBack D.After = R.After
 
-abbrev orderedBack : Answer D.Order → Ordered
-orderedBack (Gives D.Before) = R.Before
-orderedBack (Gives D.Same) = R.Same
-orderedBack (Gives D.After) = R.After
-orderedBack (Refused n) = R.NotOfKind
-orderedBack (RefusedAt n place) = R.NotOfKind
-
-ordered-back : (r : Ordered) → orderedBack (ordered r) ≡ r
-ordered-back R.Before = refl
-ordered-back R.Same = refl
-ordered-back R.After = refl
-ordered-back R.NotOfKind = refl
-
-pub ordered-determined : {x : Answer D.Order} (r s : Ordered) → ordered r ≡ x → ordered s ≡ x → r ≡ s
-ordered-determined r s e f = determined ordered orderedBack ordered-back r s e f
+pub ordered-determined : Determines ordered
+ordered-determined = determined ordered (backOne orderBack R.NotOfKind)
+    (λ r. elim r [ R.Before ↦ refl | R.Same ↦ refl | R.After ↦ refl | R.NotOfKind ↦ refl ])

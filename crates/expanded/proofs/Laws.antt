@@ -1,22 +1,25 @@
 -- What a test of month, day and hour decides, for a year of 16 bits. Assumes nothing.
-use mathlib.Core.Path.{_≡_, refl, _∙_}
-use mathlib.Core.Bool.{Bool, true, false, _&&_}
+use mathlib.Core.Path.{_≡_, refl, sym, ap, _∙_}
+use mathlib.Core.Bool.{Bool, true, false, _&&_, and-false}
 use Prim.Native.Nat.{ℕ, _+_, _*_, _/_, _%_, _≤_, _<_}
 use native.Mathlib.Omega.{arith}
 use borrow.Author.Tests.{eq-eqb, ne-eqb}
 use lib.Dec.{eqb}
 use lib.IntN.{ℤ, pos}
 use mir.Syntax.{w16}
-use mir.Val.{SFits}
+use mir.Val.{toZ, ofZ, SFits}
+use mir.Facts.{toZ-ofZ}
 use Rattle.sign.proofs.Laws.{yes-le, one-side}
 use Rattle.sign.proofs.Bits.{Within, fits-tells}
 use Rattle.rules.specs.Words.{minus, fits16}
 use Rattle.rules.specs.Refusals.{Answer, Gives, Refused, _then_, demand, given, notOfKind}
-use Rattle.rules.specs.Kinds.{Kind, Fields, fitsKind, ofKind, made, packed, unpacked, handedIn}
+use Rattle.rules.specs.Kinds.{Kind, Fields, fieldSetHour, fromFields, store, fitsKind, ofKind, made, packed, unpacked, handedIn}
 use Rattle.rules.specs.Days.{Order, Same, byZ, byN, order}
 use Rattle.rules.proofs.KindLaws.{Fit, fit}
 use Rattle.rules.proofs.OrderLaws.{day-small, hour-small}
 use Rattle.rules.proofs.PackLaws.{Handed, handed-tells}
+use Rattle.expanded.specs.declared.Made.{Made}
+use Rattle.expanded.specs.Views.{answer}
 
 pub year-fits : (y : ℤ) → SFits w16 y → fits16 y ≡ true
 year-fits y f =
@@ -49,11 +52,7 @@ handed-is k y w h f e = rw (eq-eqb (w % 4) 0 (omega arith)) (made-is k notOfKind
 -- fields that do not fit are refused, whatever the year
 pub handed-not : (k : Kind) (y : ℤ) (w : ℕ) → w % 4 ≤ 0 → fitsKind k (w / 4096) (w / 128 % 32) (w / 4 % 32) ≡ false → handedIn k y w ≡ Refused notOfKind
 unfolding handedIn made ofKind
-handed-not k y w h e = rw (eq-eqb (w % 4) 0 (omega arith), e) (none (fits16 y))
-  where
-    none : (t : Bool) → demand (t && false) notOfKind (Gives (unpacked y w)) ≡ Refused notOfKind
-    none true = refl
-    none false = refl
+handed-not k y w h e = rw (eq-eqb (w % 4) 0 (omega arith), e, and-false (fits16 y))
 
 -- ---- two dates handed in, in order
 
@@ -84,3 +83,11 @@ module _ (k : Kind) (y z : ℤ) (v w : ℕ) where
   pub in-order : given (handedIn k y v) ≡ true → given (handedIn k z w) ≡ true → compared ≡ Gives (byZ y z (byN v w Same))
   unfolding order
   in-order e f = rw (handed-by k y v e, handed-by k z w f, handed-word k y v e, handed-word k z w f)
+
+-- ---- a kind's answer, from the maker's: the year comes to it as 16 bits, the hour is the one that the kind's field sets have
+
+pub made-told : (k : Kind) (f : Fields) {date r : Made} → fieldSetHour k (f .hour) ≡ f .hour → SFits w16 (f .year) →
+    ((n : ℕ) → answer n date ≡ store (made k n (record { year = toZ w16 (ofZ w16 (f .year)); month = f .month; day = f .day; hour = f .hour }))) →
+    date ≡ r → answer notOfKind r ≡ store (fromFields k f)
+unfolding fromFields
+made-told k f set fits is same = rw set (ap (answer notOfKind) (sym same) ∙ (rw (toZ-ofZ fits) at (is notOfKind)))

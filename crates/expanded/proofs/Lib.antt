@@ -1,4 +1,3 @@
 pub mod Hours
 pub mod Laws
-pub mod Same
 pub mod Determined

@@ -1,6 +1,6 @@
 -- The four shapes of D's fast path: a text of one answers as its eight digits do. Assumes nothing.
 use mathlib.Core.Path.{_≡_, refl, sym, ap, _∙_}
-use mathlib.Core.Bool.{Bool, true, false, cond, _&&_, _||_, and-eq-true-iff}
+use mathlib.Core.Bool.{Bool, true, false, cond, _&&_, _||_, and-false, or-false, and-eq-true-iff}
 use mathlib.Core.List.{List, [], _∷_}
 use Prim.Native.Nat.{ℕ, _+_, _*_, _-_, _/_, _%_, _≤_, _<_}
 use native.Mathlib.Omega.{arith}
@@ -126,14 +126,6 @@ answered s bs e h = rw e (split (allDigits bs) refl)
     split true p = ap Answers (h p)
     split false p = refl
 
-pub and-false : (t : Bool) → t && false ≡ false
-and-false true = refl
-and-false false = refl
-
-pub or-none : (t : Bool) → t || false ≡ t
-or-none true = refl
-or-none false = refl
-
 or-three : (t : Bool) → t || false || false || false ≡ t
 or-three true = refl
 or-three false = refl
@@ -152,7 +144,7 @@ module _ (a b c d e f : ℕ) where
   module _ (g : ℕ) where
     is-9a : fastShape (a ∷ b ∷ c ∷ d ∷ 46 ∷ e ∷ f ∷ 46 ∷ g ∷ []) ≡ allDigits (a ∷ b ∷ c ∷ d ∷ e ∷ f ∷ 48 ∷ g ∷ [])
     unfolding fastShape alike allDigits
-    is-9a = simp (and-false, or-none)
+    is-9a = simp (and-false, or-false)
 
     pub shape-9a : quickly (a ∷ b ∷ c ∷ d ∷ 46 ∷ e ∷ f ∷ 46 ∷ g ∷ []) ≡ eight (a ∷ b ∷ c ∷ d ∷ e ∷ f ∷ 48 ∷ g ∷ [])
     shape-9a = answered _ _ is-9a (λ all. let t = all-eight a b c d e f 48 g all in
@@ -161,7 +153,7 @@ module _ (a b c d e f : ℕ) where
 
     is-9b : fastShape (a ∷ b ∷ c ∷ d ∷ 46 ∷ e ∷ 46 ∷ f ∷ g ∷ []) ≡ allDigits (a ∷ b ∷ c ∷ d ∷ 48 ∷ e ∷ f ∷ g ∷ [])
     unfolding fastShape alike allDigits
-    is-9b = simp (and-false, or-none)
+    is-9b = simp (and-false, or-false)
 
     pub shape-9b : quickly (a ∷ b ∷ c ∷ d ∷ 46 ∷ e ∷ 46 ∷ f ∷ g ∷ []) ≡ eight (a ∷ b ∷ c ∷ d ∷ 48 ∷ e ∷ f ∷ g ∷ [])
     shape-9b = answered _ _ is-9b (λ all. let t = all-eight a b c d 48 e f g all in

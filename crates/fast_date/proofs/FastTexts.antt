@@ -1,6 +1,7 @@
 -- D's fast path on a text, by its length and its dots. Assumes nothing.
 use mathlib.Core.Path.{_≡_, refl, sym, ap, subst, _∙_}
-use mathlib.Core.Bool.{Bool, true, false, _&&_, _||_}
+use mathlib.Core.Logic.{_⊎_, inl, inr, ⊎-elim}
+use mathlib.Core.Bool.{Bool, true, false, _&&_, _||_, and-false, or-false}
 use mathlib.Core.List.{List, [], _∷_}
 use Prim.Native.Nat.{ℕ, _≤_, _<_}
 use native.Mathlib.Nat.{le-of-eq}
@@ -11,7 +12,7 @@ use lib.ListN.{length, getD, take, drop}
 use lib.Seq.{take-all}
 use Rattle.util.proofs.Bytes.{listed, listed-is}
 use Rattle.fast_date.specs.Fast.{alike, fastShape, quickly, Quick, Silent, eight}
-use Rattle.fast_date.proofs.FastLaws.{and-false, or-none, shape-8, shape-9a, shape-9b, shape-10}
+use Rattle.fast_date.proofs.FastLaws.{shape-8, shape-9a, shape-9b, shape-10}
 
 -- a text of n bytes, byte by byte
 whole : (n : ℕ) (s : List ℕ) → length s ≡ n → s ≡ listed n s 0
@@ -28,36 +29,33 @@ no-shape s a b c = rw (ne-eqb (length s) 8 c, ne-eqb (length s) 9 b, ne-eqb (len
 pub other-length : (s : List ℕ) → (length s ≡ 10 → ⊥) → (length s ≡ 9 → ⊥) → (length s ≡ 8 → ⊥) → quickly s ≡ Silent
 other-length s a b c = silent s (no-shape s a b c)
 
+-- of two tests that do not both hold one fails, and of two that neither holds both fail
+one-fails : (s t : Bool) → s && t ≡ false → (s ≡ false) ⊎ (t ≡ false)
+one-fails true t e = inr e
+one-fails false t e = inl refl
+
+both-fail : (s t : Bool) → s || t ≡ false → (s ≡ false) × (t ≡ false)
+both-fail true t e = absurd (subst T e tt)
+both-fail false t e = (refl, e)
+
 -- at a length of 8, 9 or 10, byte by byte: no dot where one must be
 module _ (a b c d e f g h : ℕ) where
   dotless-8 : eqb e 46 && eqb g 46 ≡ false → fastShape (a ∷ b ∷ c ∷ d ∷ e ∷ f ∷ g ∷ h ∷ []) ≡ false
   unfolding fastShape alike
-  dotless-8 = by (eqb e 46) (eqb g 46) refl refl
-    where
-      by : (s t : Bool) → eqb e 46 ≡ s → eqb g 46 ≡ t → s && t ≡ false → fastShape (a ∷ b ∷ c ∷ d ∷ e ∷ f ∷ g ∷ h ∷ []) ≡ false
-      by true true p q r = absurd (subst T r tt)
-      by true false p q r = simp (p, q, and-false, or-none)
-      by false t p q r = simp (p, and-false, or-none)
+  dotless-8 o = ⊎-elim (λ (p : eqb e 46 ≡ false). simp (p, and-false, or-false)) (λ (q : eqb g 46 ≡ false). simp (q, and-false, or-false))
+      (one-fails _ _ o)
 
   module _ (i : ℕ) where
     dotless-9 : eqb e 46 && (eqb h 46 || eqb g 46) ≡ false → fastShape (a ∷ b ∷ c ∷ d ∷ e ∷ f ∷ g ∷ h ∷ i ∷ []) ≡ false
     unfolding fastShape alike
-    dotless-9 = by (eqb e 46) (eqb h 46) (eqb g 46) refl refl refl
-      where
-        by : (s t u : Bool) → eqb e 46 ≡ s → eqb h 46 ≡ t → eqb g 46 ≡ u → s && (t || u) ≡ false → fastShape (a ∷ b ∷ c ∷ d ∷ e ∷ f ∷ g ∷ h ∷ i ∷ []) ≡ false
-        by true true u p q r z = absurd (subst T z tt)
-        by true false true p q r z = absurd (subst T z tt)
-        by true false false p q r z = simp (p, q, r, and-false, or-none)
-        by false t u p q r z = simp (p, and-false, or-none)
+    dotless-9 o =
+        ⊎-elim (λ (p : eqb e 46 ≡ false). simp (p, and-false, or-false)) (λ (q : eqb h 46 || eqb g 46 ≡ false). let r = both-fail (eqb h 46) (eqb g 46) q in simp (r .0, r .1, and-false, or-false))
+        (one-fails _ _ o)
 
     dotless-10 : (j : ℕ) → eqb e 46 && eqb h 46 ≡ false → fastShape (a ∷ b ∷ c ∷ d ∷ e ∷ f ∷ g ∷ h ∷ i ∷ j ∷ []) ≡ false
     unfolding fastShape alike
-    dotless-10 j = by (eqb e 46) (eqb h 46) refl refl
-      where
-        by : (s t : Bool) → eqb e 46 ≡ s → eqb h 46 ≡ t → s && t ≡ false → fastShape (a ∷ b ∷ c ∷ d ∷ e ∷ f ∷ g ∷ h ∷ i ∷ j ∷ []) ≡ false
-        by true true p q r = absurd (subst T r tt)
-        by true false p q r = simp (p, q, and-false, or-none)
-        by false t p q r = simp (p, and-false, or-none)
+    dotless-10 j o = ⊎-elim (λ (p : eqb e 46 ≡ false). simp (p, and-false)) (λ (q : eqb h 46 ≡ false). simp (q, and-false))
+        (one-fails _ _ o)
 
 module _ (s : List ℕ) where
   module _ (n : length s ≡ 10) where

@@ -1,3 +1,4 @@
 pub mod Eight
 pub mod FastLaws
 pub mod FastTexts
+pub mod Determined

@@ -1,52 +1,31 @@
 -- Each answer is determined: two that a contract allows are equal, since the view that the contract names can be read back.
 -- Assumes nothing.
-use mathlib.Core.Path.{_≡_, refl}
-use mathlib.Core.Bool.{cond}
-use lib.Dec.{eqb}
-use Rattle.rules.specs.Refusals.{Answer, Gives, Refused, RefusedAt}
-use lib.IntN.{ℤ}
-use Rattle.rules.specs.Kinds.{Stored}
-use Rattle.expanded.proofs.Same.{determined}
-use Rattle.number.specs.declared.Read.{Read}
+use mathlib.Core.Path.{refl}
+use Prim.Native.Nat.{ℕ}
+use Rattle.rules.specs.Refusals.{notNumber}
+use Rattle.rules.proofs.ReadBack.{Determines, DeterminesEach, determined, determined-at, backOne}
+use Rattle.expanded.proofs.Determined.{packedOf, expandedOf}
+use Rattle.number.specs.declared.Numbered.the-variants as N
 use Rattle.number.specs.declared.Read.the-variants as R
-use Rattle.number.specs.declared.Guess.{Guess}
 use Rattle.number.specs.declared.Guess.the-variants as G
-use Rattle.number.specs.declared.Written.{Written}
 use Rattle.number.specs.declared.Written.the-variants as W
-use Rattle.number.specs.Views.{readAs, guessedAs, writtenAs}
+use Rattle.number.specs.Views.{numbered, readAs, guessedAs, writtenAs}
 
-abbrev readAsBack : Answer Stored → Read
-readAsBack (Gives d) = R.Date (record { year = d .year; word = d .word })
-readAsBack (Refused n) = R.NotNumber
-readAsBack (RefusedAt n place) = R.NotNumber
+numbered-at : (n : ℕ) → Determines (numbered n)
+numbered-at n =
+    determined (numbered n) (backOne (λ f. N.Fields (expandedOf f)) N.None)
+    (λ r. elim r [ N.Fields f ↦ refl | N.None ↦ refl ])
 
-readAs-back : (r : Read) → readAsBack (readAs r) ≡ r
-readAs-back (R.Date d) = refl
-readAs-back R.NotNumber = refl
+-- the contract holds for every refusal n
+pub numbered-determined : DeterminesEach numbered
+numbered-determined = determined-at numbered notNumber (numbered-at notNumber)
 
-pub readAs-determined : {x : Answer Stored} (r s : Read) → readAs r ≡ x → readAs s ≡ x → r ≡ s
-readAs-determined r s e f = determined readAs readAsBack readAs-back r s e f
+pub readAs-determined : Determines readAs
+readAs-determined = determined readAs (backOne (λ d. R.Date (packedOf d)) R.NotNumber) (λ r. elim r [ R.Date d ↦ refl | R.NotNumber ↦ refl ])
 
-abbrev guessedAsBack : Answer Stored → Guess
-guessedAsBack (Gives d) = G.Date (record { year = d .year; word = d .word })
-guessedAsBack (Refused n) = G.NotNumber
-guessedAsBack (RefusedAt n place) = G.NotNumber
+pub guessedAs-determined : Determines guessedAs
+guessedAs-determined = determined guessedAs (backOne (λ d. G.Date (packedOf d)) G.NotNumber)
+    (λ r. elim r [ G.Date d ↦ refl | G.NotNumber ↦ refl ])
 
-guessedAs-back : (r : Guess) → guessedAsBack (guessedAs r) ≡ r
-guessedAs-back (G.Date d) = refl
-guessedAs-back G.NotNumber = refl
-
-pub guessedAs-determined : {x : Answer Stored} (r s : Guess) → guessedAs r ≡ x → guessedAs s ≡ x → r ≡ s
-guessedAs-determined r s e f = determined guessedAs guessedAsBack guessedAs-back r s e f
-
-abbrev writtenAsBack : Answer ℤ → Written
-writtenAsBack (Gives d) = W.Number d
-writtenAsBack (Refused n) = W.NotOfKind
-writtenAsBack (RefusedAt n place) = W.NotOfKind
-
-writtenAs-back : (r : Written) → writtenAsBack (writtenAs r) ≡ r
-writtenAs-back (W.Number d) = refl
-writtenAs-back W.NotOfKind = refl
-
-pub writtenAs-determined : {x : Answer ℤ} (r s : Written) → writtenAs r ≡ x → writtenAs s ≡ x → r ≡ s
-writtenAs-determined r s e f = determined writtenAs writtenAsBack writtenAs-back r s e f
+pub writtenAs-determined : Determines writtenAs
+writtenAs-determined = determined writtenAs (backOne W.Number W.NotOfKind) (λ r. elim r [ W.Number n ↦ refl | W.NotOfKind ↦ refl ])

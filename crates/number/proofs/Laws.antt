@@ -1,20 +1,26 @@
 -- The fields of a number, over its two naturals; then the full decoder and the guess, by their tests. Assumes nothing.
-use mathlib.Core.Path.{_≡_, refl, _∙_, sym}
+use mathlib.Core.Path.{_≡_, refl, _∙_, sym, ap}
 use mathlib.Core.Bool.{Bool, true, false}
 use Prim.Native.Nat.{ℕ, _+_, _/_, _%_, _≤_, _<_}
 use native.Mathlib.Omega.{arith}
 use lib.IntN.{ℤ, natAbs, subℕ}
+use mir.Syntax.{w32}
+use mir.Val.{toZ, ofZ, SFits}
+use mir.Facts.{toZ-ofZ}
 use Rattle.sign.specs.Halves.{up, dn, Halved}
 use Rattle.sign.proofs.Laws.{same, ints}
 use Rattle.rules.specs.Refusals.{Answer, Gives, Refused, _then_, demand, given, notNumber, notOfKind}
 use Rattle.rules.specs.Calendar.{monthLength, monthDay, dayOfYear}
-use Rattle.rules.specs.Kinds.{Kind, Fields, handedIn}
+use Rattle.rules.specs.Kinds.{Kind, Fields, handedIn, store}
 use Rattle.rules.specs.Numbers.{onDay, hourOf, dayOf, yearOf, numberFields, readsNumbers, decoded, readNumber, guesses, guessed, guessNumber, straightAt, straight, writesNumbers, writtenHour, writeNumber}
 use Rattle.rules.proofs.KindLaws.{Fit, fit, month-fits}
 use Rattle.rules.proofs.PackLaws.{Handed, handed-tells}
 use Rattle.rules.proofs.NumberBack.{writer}
 use Rattle.expanded.proofs.Laws.{handed-by}
 use Rattle.rules.proofs.NumberLaws.{Stands, fields-at, no-fields}
+use Rattle.number.specs.declared.Read.{Read}
+use Rattle.number.specs.declared.Guess.{Guess}
+use Rattle.number.specs.Views.{readAs, guessedAs}
 
 module _ (n : ℕ) {s : ℤ} {u d : ℕ} (h : Halved 2147483647 s u d) where
   pub none : (Stands u d → ⊥) → Refused n ≡ numberFields n s
@@ -84,3 +90,13 @@ module _ (k : Kind) (y : ℤ) (w : ℕ) where
       let o = handed-tells k y w f e .of-kind in
       let t = fit k f o in
       (t .month-low, t .month-high, t .day-low, month-fits k (writer k a .1) f o)
+
+-- ---- a kind's answer, from the core's: the number comes to it as 32 bits
+
+pub read-told : (k : Kind) {s : ℤ} {read r : Read} → SFits w32 s →
+    readAs read ≡ store (readNumber k (toZ w32 (ofZ w32 s))) → read ≡ r → readAs r ≡ store (readNumber k s)
+read-told k fits is same = ap readAs (sym same) ∙ (rw (toZ-ofZ fits) at is)
+
+pub guess-told : (k : Kind) {s : ℤ} {guess r : Guess} → SFits w32 s →
+    guessedAs guess ≡ store (guessNumber k (toZ w32 (ofZ w32 s))) → guess ≡ r → guessedAs r ≡ store (guessNumber k s)
+guess-told k fits is same = ap guessedAs (sym same) ∙ (rw (toZ-ofZ fits) at is)

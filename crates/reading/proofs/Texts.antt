@@ -1,22 +1,30 @@
 -- A whole text, by the steps of each kind's reader: its length, its shape, its leading number, the rest. Assumes nothing.
 use mathlib.Core.Path.{_≡_, refl, sym, ap, _∙_}
-use mathlib.Core.Bool.{Bool, true, false, _&&_}
+use mathlib.Core.Bool.{Bool, true, false, _&&_, and-false}
 use mathlib.Core.List.{List, [], _∷_}
-use Prim.Native.Nat.{ℕ, _≤_, _<_}
+use Prim.Native.Nat.{ℕ, _≤_, _<_, _^_}
 use native.Mathlib.Omega.{arith}
 use borrow.Author.Tests.{le-leb, lt-leb, leb-false, ltb-true, ltb-false}
 use lib.Dec.{leb, ltb, eqb}
 use lib.IntN.{ℤ, pos, natAbs}
-use lib.ListN.{length}
-use lib.Signed.{leZ}
+use lib.ListN.{length, drop}
+use lib.Signed.{leZ, mag}
+use mir.Syntax.{w64}
+use mir.Val.{toZ, ofZ, hbits}
 use Rattle.sign.specs.Halves.{up, dn}
 use Rattle.sign.proofs.Laws.{ints, one-side, yes-le, no-le}
+use Rattle.sign.proofs.Bits.{held}
 use Rattle.rules.specs.Words.{minus, withinZ, fits16, fits32, byte}
 use Rattle.rules.specs.Refusals.{Answer, Gives, Refused, RefusedAt, _then_, demand, tooLong, notText}
 use Rattle.rules.specs.Kinds.{Kind, Fields, Stored, ofKind, made, settled, store}
 use Rattle.rules.specs.Numbers.{numberFields}
 use Rattle.rules.specs.Text.{Read, isDigit, digitValue, notZeroFirst, atEnd, readsNumberTexts, afterDot, secondDigit, oneOrTwo, hourAfter, dottedPart, numberText, shapeAllowed, leading, textLimit, textFields, readText}
 use Rattle.scalar.specs.Number.{most63, leadingNumber}
+use Rattle.scalar.specs.Views.{led}
+use Rattle.scalar.specs.declared.Leading.{Leading}
+use Rattle.scalar.specs.declared.Leading.the-variants as L
+use Rattle.expanded.specs.Views.{answer}
+use Rattle.expanded.specs.declared.Made.{Made}
 
 -- ---- answers that refuse with 2 alone
 
@@ -74,10 +82,6 @@ year-out : (k : Kind) {y : ℤ} {x : Answer Fields} → OfYear y x → fits16 y 
 unfolding settled made ofKind
 year-out k (dated m d h) e = rw e
 year-out k none e = refl
-
-and-false : (t : Bool) → t && false ≡ false
-and-false true = refl
-and-false false = refl
 
 text-out : (k : Kind) (y : ℤ) (rest : List ℕ) → fits16 y ≡ false → fits32 y ≡ false →
     (textFields k (record { value = y; rest = rest }) then λ f. settled k notText f) ≡ Refused notText
@@ -144,10 +148,22 @@ module _ (k : Kind) (s : List ℕ) where
       unfolding readText
       reads = rw (le-leb (length s) textLimit fits, shape)
 
-      pub no-leading : leadingNumber s ≡ Refused notText → textDate ≡ Refused notText
+      no-leading : leadingNumber s ≡ Refused notText → textDate ≡ Refused notText
       unfolding leadingNumber
       no-leading e = reads ∙ lead-none k (leading s) e
 
-      pub with-leading : (r : Read ℤ) → leadingNumber s ≡ Gives r → textDate ≡ store (textFields k r then λ f. settled k notText f)
+      with-leading : (r : Read ℤ) → leadingNumber s ≡ Gives r → textDate ≡ store (textFields k r then λ f. settled k notText f)
       unfolding leadingNumber
       with-leading r e = reads ∙ lead-some k (leading s) r e
+
+      -- what the code answers, from what its two calls ensure: a refused leading number ends the reading, else the rest decides
+      module _ {lead : Leading} (is-led : led s lead ≡ leadingNumber s) where
+        pub lead-refused : lead ≡ L.Refused → Refused notText ≡ textDate
+        lead-refused e = sym (no-leading (sym is-led ∙ ap (led s) e))
+
+        -- the number comes to the second call as its 64 bits
+        pub rest-read : {v : ℤ} {next : ℕ} {read r : Made} → lead ≡ L.Number v next → mag v < 2 ^ hbits w64 →
+            answer notText read ≡ store (textFields k (record { value = toZ w64 (ofZ w64 v); rest = drop next s }) then λ f. settled k notText f) →
+            read ≡ r → answer notText r ≡ textDate
+        rest-read {v = v} e fit64 is-read same =
+            ap (answer notText) (sym same) ∙ (rw (held w64 {z = v} fit64) at is-read) ∙ sym (with-leading _ (sym is-led ∙ ap (led s) e))

@@ -1,5 +1,6 @@
 pub mod Table
 pub mod Rests
+pub mod ReadBack
 pub mod DecimalLaws
 pub mod WriteLaws
 pub mod CalendarLaws

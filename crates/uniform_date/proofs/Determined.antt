@@ -1,38 +1,23 @@
 -- Each answer is determined: two that a contract allows are equal, since the view that the contract names can be read back.
 -- Assumes nothing.
-use mathlib.Core.Path.{_≡_, refl}
-use mathlib.Core.Bool.{cond}
-use lib.Dec.{eqb}
-use Rattle.rules.specs.Refusals.{Answer, Gives, Refused, RefusedAt}
+use mathlib.Core.Path.{refl}
 use Rattle.rules.specs.Kinds.{Stored}
-use Rattle.expanded.proofs.Same.{determined}
-use Rattle.uniform_date.specs.declared.Made.{Made}
+use Rattle.rules.proofs.ReadBack.{Determines, determined, backOne, backText}
+use Rattle.expanded.proofs.Determined.{packedOf}
+use Rattle.uniform_date.specs.declared.UniformDate.{UniformDate}
 use Rattle.uniform_date.specs.declared.Made.the-variants as M
-use Rattle.uniform_date.specs.declared.Parsed.{Parsed}
 use Rattle.uniform_date.specs.declared.Parsed.the-variants as P
-use Rattle.uniform_date.specs.Views.{made, parsed}
+use Rattle.uniform_date.specs.Views.{bits, made, parsed}
 
-abbrev madeBack : Answer Stored → Made
-madeBack (Gives d) = M.Date (record { raw = record { year = d .year; word = d .word } })
-madeBack (Refused n) = M.NotOfKind
-madeBack (RefusedAt n place) = M.NotOfKind
+abbrev dated : Stored → UniformDate
+dated d = record { raw = packedOf d }
 
-made-back : (r : Made) → madeBack (made r) ≡ r
-made-back (M.Date d) = refl
-made-back M.NotOfKind = refl
+pub bits-determined : Determines bits
+bits-determined = determined bits dated (λ d. refl)
 
-pub made-determined : {x : Answer Stored} (r s : Made) → made r ≡ x → made s ≡ x → r ≡ s
-made-determined r s e f = determined made madeBack made-back r s e f
+pub made-determined : Determines made
+made-determined = determined made (backOne (λ d. M.Date (dated d)) M.NotOfKind) (λ r. elim r [ M.Date d ↦ refl | M.NotOfKind ↦ refl ])
 
-abbrev parsedBack : Answer Stored → Parsed
-parsedBack (Gives d) = P.Date (record { raw = record { year = d .year; word = d .word } })
-parsedBack (Refused n) = cond (eqb n 1) P.TooLong P.NotText
-parsedBack (RefusedAt n place) = P.NotText
-
-parsed-back : (r : Parsed) → parsedBack (parsed r) ≡ r
-parsed-back (P.Date d) = refl
-parsed-back P.TooLong = refl
-parsed-back P.NotText = refl
-
-pub parsed-determined : {x : Answer Stored} (r s : Parsed) → parsed r ≡ x → parsed s ≡ x → r ≡ s
-parsed-determined r s e f = determined parsed parsedBack parsed-back r s e f
+pub parsed-determined : Determines parsed
+parsed-determined = determined parsed (backText (λ d. P.Date (dated d)) P.TooLong P.NotText)
+    (λ r. elim r [ P.Date d ↦ refl | P.TooLong ↦ refl | P.NotText ↦ refl ])

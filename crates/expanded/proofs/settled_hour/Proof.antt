@@ -4,26 +4,13 @@ use borrow.Author.Tests.{eq-eqb, ne-eqb}
 use Rattle.expanded.proofs.settled_hour.Statement.{statement}
 use Rattle.expanded.proofs.settled_hour.Tie as tie
 
-returns : tie.Need-returns
-returns c = rw (c .before .enum-told5 .given .1, eq-eqb _ 23 (c .if1 .taken))
-
-returns-6 : tie.Need-returns-6
-returns-6 c = rw (c .before .enum-told5 .given .1, ne-eqb _ 23 (c .if1 .left))
-
 pub settled-hour-spec : {M : Type 1} → statement M
 settled-hour-spec =
     tie.close
     (tie.spec
+    (λ c. search needs) (λ c. search needs) (λ c. search needs) (λ c. search needs) (λ c. search needs)
+    (λ c. rw (c .before .enum-told5 .given .1, eq-eqb _ 23 (c .if1 .taken)))
     (λ c. search needs)
-    (λ c. search needs)
-    (λ c. search needs)
-    (λ c. search needs)
-    (λ c. search needs)
-    returns
-    (λ c. search needs)
-    (λ c. search needs)
-    (λ c. search needs)
-    (λ c. search needs)
-    (λ c. search needs)
-    returns-6
+    (λ c. search needs) (λ c. search needs) (λ c. search needs) (λ c. search needs)
+    (λ c. rw (c .before .enum-told5 .given .1, ne-eqb _ 23 (c .if1 .left)))
     (λ c. search needs))

@@ -7,34 +7,13 @@ use Rattle.fast_date.proofs.FastTexts.{dots-10, none-10}
 use Rattle.fast_date.proofs.fast_10.Statement.{statement}
 use Rattle.fast_date.proofs.fast_10.Tie as tie
 
-returns : tie.Need-returns
-returns c =
-    c .fast-digits .ensures ∙ ap eight (c .before .from-le-bytes .ensures) ∙ sym (dots-10 (c .before .before .before .before .before .before .before .before .before .before .before .before .before .before .before .args .s .now) (c .before .before .before .before .before .before .before .before .before .before .before .before .before .before .before .pre) (c .before .before .before .before .before .before .before .before .before .before .before .before .if1 .taken) (c .before .before .before .before .before .before .before .before .before .before .if2 .taken))
-
-returns-2 : tie.Need-returns-2
-returns-2 c =
-    sym (none-10 (c .before .before .before .before .before .args .s .now) (c .before .before .before .before .before .pre) (rw (eq-eqb _ 46 (c .before .before .if1 .taken), ne-eqb _ 46 (c .if2 .left))))
-
-returns-3 : tie.Need-returns-3
-returns-3 c =
-    sym (none-10 (c .before .before .before .args .s .now) (c .before .before .before .pre) (rw (ne-eqb _ 46 (c .if1 .left))))
-
 pub fast-10-spec : {M : Type 1} → statement M
 fast-10-spec =
     tie.close
     (tie.spec
-    (λ c. search needs)
-    (λ c. search needs)
-    (λ c. search needs)
-    (λ c. search needs)
-    (λ c. search needs)
-    (λ c. search needs)
-    (λ c. search needs)
-    (λ c. search needs)
-    (λ c. search needs)
-    (λ c. search needs)
-    (λ c κs. search needs)
-    (λ c κs. search needs)
-    returns
-    returns-2
-    returns-3)
+    (λ c. search needs) (λ c. search needs)
+    (λ c. search needs) (λ c. search needs) (λ c. search needs) (λ c. search needs) (λ c. search needs) (λ c. search needs) (λ c. search needs) (λ c. search needs)
+    (λ c κs. search needs) (λ c κs. search needs)
+    (λ c. c .fast-digits .ensures ∙ ap eight (c .before .from-le-bytes .ensures) ∙ sym (dots-10 _ (c .before .before .before .before .before .before .before .before .before .before .before .before .before .before .before .pre) (c .before .before .before .before .before .before .before .before .before .before .before .before .if1 .taken) (c .before .before .before .before .before .before .before .before .before .before .if2 .taken)))
+    (λ c. sym (none-10 _ (c .before .before .before .before .before .pre) (rw (eq-eqb _ 46 (c .before .before .if1 .taken), ne-eqb _ 46 (c .if2 .left)))))
+    (λ c. sym (none-10 _ (c .before .before .before .pre) (rw (ne-eqb _ 46 (c .if1 .left))))))

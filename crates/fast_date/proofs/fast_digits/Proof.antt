@@ -1,51 +1,31 @@
 -- `fast_date::fast_digits` meets its contract: the value of eight digits, taken apart. Assumes nothing.
 use borrow.Author.Needs.{needs}
 use native.Mathlib.Omega.{arith}
-use mathlib.Core.Path.{sym, ap, _∙_}
-use Prim.Native.Nat.{_/_}
-use mir.Syntax.{w16}
-use mir.ValLaws.{toZ-pos}
-use Rattle.rules.specs.Refusals.{notText}
-use Rattle.expanded.specs.Views.{answer}
+use mathlib.Core.Path.{_≡_, sym, ap, _∙_}
+use Prim.Native.Nat.{_<_}
 use Rattle.util.specs.Word.{bytesOf}
-use Rattle.util.specs.Parse.{valueOf}
-use Rattle.fast_date.specs.Fast.{Answers, eight}
-use Rattle.fast_date.proofs.Eight.{parsed-some, parsed-none}
+use Rattle.util.specs.Parse.{parsed, valueOf}
+use Rattle.util.specs.declared.Parsed.the-variants.{Value}
+use Rattle.fast_date.specs.Fast.{eight}
+use Rattle.fast_date.proofs.Eight.{eight-told, parsed-none}
 use Rattle.fast_date.proofs.fast_digits.Statement.{statement}
 use Rattle.fast_date.proofs.fast_digits.Tie as tie
 
-cast-year : tie.Need-cast-year
-cast-year c =
-    omega (arith, ap valueOf (c .before .parsed .given .1), c .before .before .before .fast-digit-parse .ensures .1)
+-- the value that the digits have, and its bound
+value-is : (p : tie.After-parsed) → Value (p .parsed .given .0 .0) ≡ parsed (bytesOf 8 (p .before .before .before .args .word))
+value-is p = sym (p .parsed .given .1) ∙ p .before .before .fast-digit-parse .ensures .0
 
-returns : tie.Need-returns
-unfolding eight
-returns c =
-    let v = c .before .before .before .before .before .parsed .given .0 .0 in let t = parsed-some (bytesOf 8 (c .before .before .before .before .before .before .before .before .args .word)) v (sym (c .before .before .before .before .before .parsed .given .1) ∙ c .before .before .before .before .before .before .before .fast-digit-parse .ensures .0) in rw (t .0, t .1) (ap Answers (ap (answer notText) (sym (c .before .made .given .1)) ∙ (rw (toZ-pos w16 (v / 10000) (omega (arith, ap valueOf (c .before .before .before .before .before .parsed .given .1), c .before .before .before .before .before .before .before .fast-digit-parse .ensures .1))) at (c .before .before .before .settle .ensures notText))))
-
-returns-2 : tie.Need-returns-2
-unfolding eight
-returns-2 c =
-    let v = c .before .before .before .before .parsed .given .0 .0 in let t = parsed-some (bytesOf 8 (c .before .before .before .before .before .before .before .args .word)) v (sym (c .before .before .before .before .parsed .given .1) ∙ c .before .before .before .before .before .before .fast-digit-parse .ensures .0) in rw (t .0, t .1) (ap Answers (ap (answer notText) (sym (c .enum-told .given .1)) ∙ (rw (toZ-pos w16 (v / 10000) (omega (arith, ap valueOf (c .before .before .before .before .parsed .given .1), c .before .before .before .before .before .before .fast-digit-parse .ensures .1))) at (c .before .before .settle .ensures notText))))
-
-returns-3 : tie.Need-returns-3
-unfolding eight
-returns-3 c =
-    rw (parsed-none (bytesOf 8 (c .before .before .before .args .word)) (sym (c .enum-told2 .given .1) ∙ c .before .before .fast-digit-parse .ensures .0))
+small : (p : tie.After-parsed) → p .parsed .given .0 .0 < 100000000
+small p = omega (arith, ap valueOf (p .parsed .given .1), p .before .before .fast-digit-parse .ensures .1)
 
 pub fast-digits-spec : {M : Type 1} → statement M
+unfolding eight
 fast-digits-spec =
     tie.close
     (tie.spec
-    (λ c κs. search needs)
-    (λ c. search needs)
-    cast-year
-    (λ c. search needs)
-    (λ c. search needs)
-    (λ c κs. search needs)
-    (λ c. search needs)
-    (λ c. search needs)
-    (λ c. search needs)
-    returns
-    returns-2
-    returns-3)
+    (λ c κs. search needs) (λ c. search needs)
+    (λ c. omega (arith, small (c .before))) (λ c. search needs) (λ c. search needs)
+    (λ c κs. search needs) (λ c. search needs) (λ c. search needs) (λ c. search needs)
+    (λ c. let p = c .before .before .before .before .before in eight-told _ _ (value-is p) (small p) (c .before .before .before .settle .ensures) (c .before .made .given .1))
+    (λ c. let p = c .before .before .before .before in eight-told _ _ (value-is p) (small p) (c .before .before .settle .ensures) (c .enum-told .given .1))
+    (λ c. rw (parsed-none _ (sym (c .enum-told2 .given .1) ∙ c .before .before .fast-digit-parse .ensures .0))))

@@ -3,23 +3,11 @@ use borrow.Author.Needs.{needs}
 use Rattle.number.proofs.decoded_hour.Statement.{statement}
 use Rattle.number.proofs.decoded_hour.Tie as tie
 
-returns-3 : tie.Need-returns-3
-returns-3 c = rw (c .enum-told3 .given .1)
-
 pub decoded-hour-spec : {M : Type 1} → statement M
 decoded-hour-spec =
     tie.close
     (tie.spec
-    (λ c. search needs)
-    (λ c. search needs)
-    (λ c. search needs)
-    (λ c. search needs)
-    (λ c. search needs)
-    (λ c. search needs)
-    (λ c. search needs)
-    (λ c. search needs)
-    (λ c. search needs)
-    returns-3
-    (λ c. search needs)
-    (λ c. search needs)
-    (λ c. search needs))
+    (λ c. search needs) (λ c. search needs) (λ c. search needs) (λ c. search needs) (λ c. search needs) (λ c. search needs)
+    (λ c. search needs) (λ c. search needs) (λ c. search needs)
+    (λ c. rw (c .enum-told3 .given .1))
+    (λ c. search needs) (λ c. search needs) (λ c. search needs))

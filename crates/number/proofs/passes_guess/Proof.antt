@@ -4,39 +4,19 @@ use mir.Facts.{toZ-ofZ}
 use Rattle.number.proofs.passes_guess.Statement.{statement}
 use Rattle.number.proofs.passes_guess.Tie as tie
 
-returns-2 : tie.Need-returns-2
-returns-2 c =
-    rw (c .before .enum-told2 .given .1) (rw (toZ-ofZ (c .before .before .before .fits .year)) at (c .guess-date .ensures))
-
-returns-3 : tie.Need-returns-3
-returns-3 c =
-    rw (c .before .enum-told3 .given .1) (rw (toZ-ofZ (c .before .before .before .fits .year)) at (c .guess-hour .ensures))
-
-returns-5 : tie.Need-returns-5
-returns-5 c =
-    rw (c .before .enum-told5 .given .1) (rw (toZ-ofZ (c .before .before .before .fits .year)) at (c .guess-eu5 .ensures))
-
-returns-6 : tie.Need-returns-6
-returns-6 c =
-    rw (c .before .enum-told6 .given .1) (rw (toZ-ofZ (c .before .before .before .fits .year)) at (c .guess-vic3 .ensures))
-
 pub passes-guess-spec : {M : Type 1} → statement M
 passes-guess-spec =
     tie.close
     (tie.spec
     (λ c. search needs)
+    (λ c. search needs) (λ c κs. search needs)
+    (λ c. search needs) (λ c κs. search needs)
     (λ c. search needs)
-    (λ c κs. search needs)
+    (λ c. search needs) (λ c κs. search needs)
+    (λ c. search needs) (λ c κs. search needs)
     (λ c. search needs)
-    (λ c κs. search needs)
+    (λ c. rw (c .before .enum-told2 .given .1) (rw (toZ-ofZ (c .before .before .before .fits .year)) at (c .guess-date .ensures)))
+    (λ c. rw (c .before .enum-told3 .given .1) (rw (toZ-ofZ (c .before .before .before .fits .year)) at (c .guess-hour .ensures)))
     (λ c. search needs)
-    (λ c. search needs)
-    (λ c κs. search needs)
-    (λ c. search needs)
-    (λ c κs. search needs)
-    (λ c. search needs)
-    returns-2
-    returns-3
-    (λ c. search needs)
-    returns-5
-    returns-6)
+    (λ c. rw (c .before .enum-told5 .given .1) (rw (toZ-ofZ (c .before .before .before .fits .year)) at (c .guess-eu5 .ensures)))
+    (λ c. rw (c .before .enum-told6 .given .1) (rw (toZ-ofZ (c .before .before .before .fits .year)) at (c .guess-vic3 .ensures))))

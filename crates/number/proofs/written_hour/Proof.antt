@@ -4,26 +4,13 @@ use native.Mathlib.Omega.{arith}
 use Rattle.number.proofs.written_hour.Statement.{statement}
 use Rattle.number.proofs.written_hour.Tie as tie
 
-returns : tie.Need-returns
-returns c = rw (c .before .enum-told3 .given .1) (omega arith)
-
-returns-4 : tie.Need-returns-4
-returns-4 c = rw (c .before .enum-told3 .given .1)
-
 pub written-hour-spec : {M : Type 1} → statement M
 written-hour-spec =
     tie.close
     (tie.spec
-    (λ c. search needs)
-    (λ c. search needs)
-    (λ c. search needs)
-    returns
-    (λ c. search needs)
-    (λ c. search needs)
-    (λ c. search needs)
-    (λ c. search needs)
-    (λ c. search needs)
-    returns-4
-    (λ c. search needs)
-    (λ c. search needs)
-    (λ c. search needs))
+    (λ c. search needs) (λ c. search needs) (λ c. search needs)
+    (λ c. rw (c .before .enum-told3 .given .1) (omega arith))
+    (λ c. search needs) (λ c. search needs) (λ c. search needs)
+    (λ c. search needs) (λ c. search needs)
+    (λ c. rw (c .before .enum-told3 .given .1))
+    (λ c. search needs) (λ c. search needs) (λ c. search needs))

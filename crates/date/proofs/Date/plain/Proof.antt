@@ -1,48 +1,21 @@
 -- `date::Date::plain` meets its contract: the length, the shape, the leading number, the rest. Assumes nothing.
 use borrow.Author.Needs.{needs}
-use mathlib.Core.Path.{sym, ap, _∙_}
-use mir.Syntax.{w64}
-use Rattle.sign.proofs.Bits.{held}
-use Rattle.rules.specs.Refusals.{notText}
+use mathlib.Core.Path.{sym, _∙_}
 use Rattle.rules.specs.Kinds.{kD}
-use Rattle.scalar.specs.Views.{led}
-use Rattle.expanded.specs.Views.{answer}
-use Rattle.reading.proofs.Texts.{too-long, shape-refused, no-leading, with-leading}
+use Rattle.reading.proofs.Texts.{too-long, shape-refused, lead-refused, rest-read}
 use Rattle.date.proofs.Date.plain.Statement.{statement}
 use Rattle.date.proofs.Date.plain.Tie as tie
-
-returns : tie.Need-returns
-returns c = sym (too-long kD (c .before .before .args .s .now) (c .if1 .taken))
-
-returns-2 : tie.Need-returns-2
-returns-2 c =
-    let s = c .before .before .before .before .before .before .before .args .s .now in sym (no-leading kD s (c .before .before .before .before .before .if1 .left) (sym (c .before .before .before .before .shape-allowed .ensures) ∙ c .before .before .before .if2 .taken) (sym (c .before .before .to-i64-t .ensures .0) ∙ ap (led s) (c .enum-told .given .1)))
-
-returns-3 : tie.Need-returns-3
-returns-3 c =
-    let s = c .before .before .before .before .before .before .before .before .before .before .before .before .args .s .now in ap (answer notText) (sym (c .before .made .given .1)) ∙ (rw (held w64 {z = c .before .before .before .before .before .value .given .0 .0} (c .before .before .before .before .known-told .given .0 .1)) at (c .before .before .before .read-rest .ensures)) ∙ sym (with-leading kD s (c .before .before .before .before .before .before .before .before .before .before .if1 .left) (sym (c .before .before .before .before .before .before .before .before .before .shape-allowed .ensures) ∙ c .before .before .before .before .before .before .before .before .if2 .taken) _ (sym (c .before .before .before .before .before .before .before .to-i64-t .ensures .0) ∙ ap (led s) (c .before .before .before .before .before .value .given .1)))
-
-returns-4 : tie.Need-returns-4
-returns-4 c =
-    let s = c .before .before .before .before .before .before .before .before .before .before .before .args .s .now in ap (answer notText) (sym (c .enum-told2 .given .1)) ∙ (rw (held w64 {z = c .before .before .before .before .value .given .0 .0} (c .before .before .before .known-told .given .0 .1)) at (c .before .before .read-rest .ensures)) ∙ sym (with-leading kD s (c .before .before .before .before .before .before .before .before .before .if1 .left) (sym (c .before .before .before .before .before .before .before .before .shape-allowed .ensures) ∙ c .before .before .before .before .before .before .before .if2 .taken) _ (sym (c .before .before .before .before .before .before .to-i64-t .ensures .0) ∙ ap (led s) (c .before .before .before .before .value .given .1)))
-
-returns-5 : tie.Need-returns-5
-returns-5 c =
-    sym (shape-refused kD (c .before .before .before .before .args .s .now) (c .before .before .if1 .left) (sym (c .before .shape-allowed .ensures) ∙ c .if2 .left))
 
 pub plain-spec : {M : Type 1} → statement M
 plain-spec =
     tie.close
     (tie.spec
-    returns
-    (λ c κs. search needs)
-    (λ c κs. search needs)
-    (λ c. search needs)
-    (λ c. search needs)
-    returns-2
-    (λ c κs. search needs)
-    (λ c. search needs)
-    (λ c. search needs)
-    returns-3
-    returns-4
-    returns-5)
+    (λ c. sym (too-long kD _ (c .if1 .taken)))
+    (λ c κs. search needs) (λ c κs. search needs) (λ c. search needs) (λ c. search needs)
+    (λ c. let at = c .before .before .before in lead-refused kD _ (at .before .before .if1 .left) (sym (at .before .shape-allowed .ensures) ∙ at .if2 .taken) (c .before .before .to-i64-t .ensures .0) (c .enum-told .given .1))
+    (λ c κs. search needs) (λ c. search needs) (λ c. search needs)
+    (λ c. let at = c .before .before .before .before .before .before .before .before in rest-read kD _ (at .before .before .if1 .left) (sym (at .before .shape-allowed .ensures) ∙ at .if2 .taken) (c .before .before .before .before .before .before .before .to-i64-t .ensures .0) (c .before .before .before .before .before .value .given .1)
+    (c .before .before .before .before .known-told .given .0 .1) (c .before .before .before .read-rest .ensures) (c .before .made .given .1))
+    (λ c. let at = c .before .before .before .before .before .before .before in rest-read kD _ (at .before .before .if1 .left) (sym (at .before .shape-allowed .ensures) ∙ at .if2 .taken) (c .before .before .before .before .before .before .to-i64-t .ensures .0) (c .before .before .before .before .value .given .1)
+    (c .before .before .before .known-told .given .0 .1) (c .before .before .read-rest .ensures) (c .enum-told2 .given .1))
+    (λ c. sym (shape-refused kD _ (c .before .before .if1 .left) (sym (c .before .shape-allowed .ensures) ∙ c .if2 .left))))

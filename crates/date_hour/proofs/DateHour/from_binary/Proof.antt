@@ -1,19 +1,14 @@
 -- `date_hour::DateHour::from_binary` meets its contract: the full decoder at H. Assumes nothing.
 use borrow.Author.Needs.{needs}
-use mathlib.Core.Path.{sym, ap, _∙_}
-use mir.Facts.{toZ-ofZ}
-use Rattle.number.specs.Views.{readAs}
+use Rattle.rules.specs.Kinds.{kH}
+use Rattle.number.proofs.Laws.{read-told}
 use Rattle.date_hour.proofs.DateHour.from_binary.Statement.{statement}
 use Rattle.date_hour.proofs.DateHour.from_binary.Tie as tie
 
-returns : tie.Need-returns
-returns c =
-    ap readAs (sym (c .before .read .given .1)) ∙ (rw (toZ-ofZ (c .before .before .before .before .fits .s)) at (c .before .before .before .from-binary .ensures))
-
-returns-2 : tie.Need-returns-2
-returns-2 c =
-    ap readAs (sym (c .enum-told .given .1)) ∙ (rw (toZ-ofZ (c .before .before .before .fits .s)) at (c .before .before .from-binary .ensures))
-
 pub from-binary-spec : {M : Type 1} → statement M
 from-binary-spec =
-    tie.close (tie.spec (λ c κs. search needs) (λ c. search needs) (λ c. search needs) returns returns-2)
+    tie.close
+    (tie.spec
+    (λ c κs. search needs) (λ c. search needs) (λ c. search needs)
+    (λ c. read-told kH (c .before .before .before .before .fits .s) (c .before .before .before .from-binary .ensures) (c .before .read .given .1))
+    (λ c. read-told kH (c .before .before .before .fits .s) (c .before .before .from-binary .ensures) (c .enum-told .given .1)))

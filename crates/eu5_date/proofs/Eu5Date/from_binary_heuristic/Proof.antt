@@ -1,20 +1,14 @@
 -- `eu5_date::Eu5Date::from_binary_heuristic` meets its contract: the guess at E. Assumes nothing.
 use borrow.Author.Needs.{needs}
-use mathlib.Core.Path.{sym, ap, _∙_}
-use mir.Facts.{toZ-ofZ}
-use Rattle.number.specs.Views.{guessedAs}
+use Rattle.rules.specs.Kinds.{kE}
+use Rattle.number.proofs.Laws.{guess-told}
 use Rattle.eu5_date.proofs.Eu5Date.from_binary_heuristic.Statement.{statement}
 use Rattle.eu5_date.proofs.Eu5Date.from_binary_heuristic.Tie as tie
-
-returns : tie.Need-returns
-returns c =
-    ap guessedAs (sym (c .before .guess .given .1)) ∙ (rw (toZ-ofZ (c .before .before .before .before .fits .s)) at (c .before .before .before .from-binary-heuristic .ensures))
-
-returns-2 : tie.Need-returns-2
-returns-2 c =
-    ap guessedAs (sym (c .enum-told .given .1)) ∙ (rw (toZ-ofZ (c .before .before .before .fits .s)) at (c .before .before .from-binary-heuristic .ensures))
 
 pub from-binary-heuristic-spec : {M : Type 1} → statement M
 from-binary-heuristic-spec =
     tie.close
-    (tie.spec (λ c κs. search needs) (λ c. search needs) (λ c. search needs) returns returns-2)
+    (tie.spec
+    (λ c κs. search needs) (λ c. search needs) (λ c. search needs)
+    (λ c. guess-told kE (c .before .before .before .before .fits .s) (c .before .before .before .from-binary-heuristic .ensures) (c .before .guess .given .1))
+    (λ c. guess-told kE (c .before .before .before .fits .s) (c .before .before .from-binary-heuristic .ensures) (c .enum-told .given .1)))

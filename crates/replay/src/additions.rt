@@ -4,13 +4,14 @@ use crate::Way;
 use crate::dates;
 use crate::judge;
 use crate::line;
+use crate::rows;
+use crate::rows::Said;
 use crate::unasked;
 use crate::unread;
 use date::Date;
 use eu5_date::Eu5Date;
 use expanded::Kind;
 use expanded::Made;
-use rows::Said;
 use vic3_date::Vic3Date;
 
 fn date(f: Said, days: i32) -> Said {
@@ -65,7 +66,7 @@ fn asked(kind: u8, f: Said, days: i32) -> Said {
     }
 }
 
-pub fn judged(row: &[u8]) -> Verdict {
+pub(crate) fn judged(row: &[u8]) -> Verdict {
     let f = rows::date(row, rows::after(row, 1, b' '));
     let days = rows::whole32(row, rows::after(row, f.next, b' '));
     let said = rows::answer(row, rows::after(row, days.next, b' '));

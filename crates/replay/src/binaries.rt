@@ -5,6 +5,9 @@ use crate::asked_number;
 use crate::dates;
 use crate::judge_number;
 use crate::line;
+use crate::rows;
+use crate::rows::Said;
+use crate::rows::Whole;
 use crate::unasked_number;
 use crate::unread;
 use date::Date;
@@ -12,8 +15,6 @@ use date_hour::DateHour;
 use expanded::Kind;
 use expanded::Made;
 use number::Written;
-use rows::Said;
-use rows::Whole;
 
 fn number_of(w: Written) -> Whole {
     match w {
@@ -47,7 +48,7 @@ fn asked(kind: u8, f: Said) -> Whole {
     }
 }
 
-pub fn judged(row: &[u8]) -> Verdict {
+pub(crate) fn judged(row: &[u8]) -> Verdict {
     let f = rows::date(row, rows::after(row, 1, b' '));
     let said = rows::whole32(row, rows::after(row, f.next, b' '));
     judge_number(row, said, asked(rows::byte(row, 0), f))

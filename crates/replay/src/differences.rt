@@ -5,6 +5,9 @@ use crate::asked_number;
 use crate::dates;
 use crate::judge_number;
 use crate::line;
+use crate::rows;
+use crate::rows::Said;
+use crate::rows::Whole;
 use crate::unasked_number;
 use crate::unread;
 use date::Date;
@@ -12,8 +15,6 @@ use day_count::Days;
 use eu5_date::Eu5Date;
 use expanded::Kind;
 use expanded::Made;
-use rows::Said;
-use rows::Whole;
 use vic3_date::Vic3Date;
 
 fn number_of(d: Days) -> Whole {
@@ -66,7 +67,7 @@ fn asked(kind: u8, f: Said, g: Said) -> Whole {
     }
 }
 
-pub fn judged(row: &[u8]) -> Verdict {
+pub(crate) fn judged(row: &[u8]) -> Verdict {
     let f = rows::date(row, rows::after(row, 1, b' '));
     let g = rows::date(row, rows::after(row, f.next, b' '));
     let said = rows::whole32(row, rows::after(row, g.next, b' '));

@@ -4,13 +4,14 @@ use crate::Way;
 use crate::dates;
 use crate::judge;
 use crate::line;
+use crate::rows;
+use crate::rows::Said;
 use crate::unasked;
 use crate::unread;
 use date::Date;
 use date_hour::DateHour;
 use eu5_date::Eu5Date;
 use raw_date::RawDate;
-use rows::Said;
 use uniform_date::UniformDate;
 use vic3_date::Vic3Date;
 
@@ -84,7 +85,7 @@ fn asked(kind: u8, f: Said) -> Said {
     }
 }
 
-pub fn judged(row: &[u8]) -> Verdict {
+pub(crate) fn judged(row: &[u8]) -> Verdict {
     let f = rows::date(row, rows::after(row, 1, b' '));
     let said = rows::answer(row, rows::after(row, f.next, b' '));
     judge(row, said, asked(rows::byte(row, 0), f))

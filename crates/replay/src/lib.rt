@@ -1,21 +1,23 @@
 // The stored answers of the original, asked again: each row is read, the kind's public method is called,
 // and what it answers is held against what the row says.
 ghost use Prim.Native.Nat.{_≤_};
+use crate::rows::Said;
+use crate::rows::Whole;
 use libc::STDOUT_FILENO;
-use rows::Said;
-use rows::Whole;
 
 pub mod additions;
 pub mod binaries;
-pub mod dates;
+mod dates;
 pub mod differences;
 pub mod fields;
 pub mod numbers;
 pub mod orders;
+mod quoted;
+mod rows;
 pub mod texts;
 
 // What the rows of a file ask.
-pub enum Way {
+enum Way {
     Texts,
     Numbers,
     Fields,
@@ -26,16 +28,16 @@ pub enum Way {
 }
 
 // What became of a row. An unread one is not a row of its file, or asks what the kind does not have.
-pub enum Verdict {
+enum Verdict {
     Right,
     Wrong,
     Unread,
 }
 
-pub struct Counts {
-    pub rows: u64,
-    pub wrong: u64,
-    pub unread: u64,
+struct Counts {
+    rows: u64,
+    wrong: u64,
+    unread: u64,
 }
 
 // In the place of a kind: every row.
@@ -44,23 +46,23 @@ const EVERY: u8 = 0;
 // In the place of a refusal's number: the method is not there to be asked.
 const UNASKED: u8 = 255;
 
-pub fn unasked() -> Said {
+fn unasked() -> Said {
     rows::refused(UNASKED)
 }
 
-pub fn unasked_number() -> Whole {
+fn unasked_number() -> Whole {
     Whole {
         value: 0,
         next: rows::NOWHERE,
     }
 }
 
-pub fn asked_number(value: i32) -> Whole {
+fn asked_number(value: i32) -> Whole {
     Whole { value, next: 0 }
 }
 
 // What a row says, against what the kind answers.
-pub fn judge(row: &[u8], said: Said, got: Said) -> Verdict {
+fn judge(row: &[u8], said: Said, got: Said) -> Verdict {
     if got.refusal == UNASKED {
         return Verdict::Unread;
     }
@@ -74,7 +76,7 @@ pub fn judge(row: &[u8], said: Said, got: Said) -> Verdict {
 }
 
 // The same for an answer that is a number.
-pub fn judge_number(row: &[u8], said: Whole, got: Whole) -> Verdict {
+fn judge_number(row: &[u8], said: Whole, got: Whole) -> Verdict {
     if got.next == rows::NOWHERE {
         return Verdict::Unread;
     }
@@ -167,7 +169,7 @@ fn print(text: &[u8]) {
 }
 
 // A line for a kind and a way: how many rows were read, and how many of them say another thing.
-pub fn line(way: Way, s: &[u8], kind: u8, mark: u8) {
+fn line(way: Way, s: &[u8], kind: u8, mark: u8) {
     let t = tally(way, s, kind, mark);
     let head = [kind, b' ', mark, b' '];
     print(&head);
@@ -178,7 +180,7 @@ pub fn line(way: Way, s: &[u8], kind: u8, mark: u8) {
 }
 
 // The last line: how many rows of all were not read.
-pub fn unread(way: Way, s: &[u8]) {
+fn unread(way: Way, s: &[u8]) {
     let t = tally(way, s, EVERY, 0);
     print(b"unread ");
     io::print_decimal(STDOUT_FILENO, t.unread);

@@ -4,13 +4,14 @@ use crate::Way;
 use crate::dates;
 use crate::judge;
 use crate::line;
+use crate::rows;
+use crate::rows::Said;
 use crate::unasked;
 use crate::unread;
 use date::Date;
 use date_hour::DateHour;
 use eu5_date::Eu5Date;
 use raw_date::RawDate;
-use rows::Said;
 use vic3_date::Vic3Date;
 
 fn raw(n: i32) -> Said {
@@ -116,7 +117,7 @@ fn asked(kind: u8, way: u8, n: i32) -> Said {
     }
 }
 
-pub fn judged(row: &[u8]) -> Verdict {
+pub(crate) fn judged(row: &[u8]) -> Verdict {
     let way = rows::byte(row, rows::after(row, 1, b' '));
     let n = rows::whole32(row, rows::after(row, 3, b' '));
     let said = rows::answer(row, rows::after(row, n.next, b' '));

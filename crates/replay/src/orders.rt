@@ -5,6 +5,9 @@ use crate::asked_number;
 use crate::dates;
 use crate::judge_number;
 use crate::line;
+use crate::rows;
+use crate::rows::Said;
+use crate::rows::Whole;
 use crate::unasked_number;
 use crate::unread;
 use date::Date;
@@ -14,8 +17,6 @@ use expanded::Kind;
 use expanded::Made;
 use expanded::Ordered;
 use raw_date::RawDate;
-use rows::Said;
-use rows::Whole;
 use uniform_date::UniformDate;
 use vic3_date::Vic3Date;
 
@@ -107,7 +108,7 @@ fn asked(kind: u8, f: Said, g: Said) -> Whole {
     }
 }
 
-pub fn judged(row: &[u8]) -> Verdict {
+pub(crate) fn judged(row: &[u8]) -> Verdict {
     let f = rows::date(row, rows::after(row, 1, b' '));
     let g = rows::date(row, rows::after(row, f.next, b' '));
     let said = rows::whole32(row, rows::after(row, g.next, b' '));

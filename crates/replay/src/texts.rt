@@ -4,13 +4,15 @@ use crate::Way;
 use crate::dates;
 use crate::judge;
 use crate::line;
+use crate::quoted;
+use crate::rows;
+use crate::rows::Said;
 use crate::unasked;
 use crate::unread;
 use date::Date;
 use date_hour::DateHour;
 use eu5_date::Eu5Date;
 use raw_date::RawDate;
-use rows::Said;
 use uniform_date::UniformDate;
 use vic3_date::Vic3Date;
 
@@ -93,9 +95,9 @@ fn asked_part(kind: u8, text: &[u8; 16], len: usize) -> Said {
     asked_first(kind, text, len)
 }
 
-pub fn judged(row: &[u8]) -> Verdict {
+pub(crate) fn judged(row: &[u8]) -> Verdict {
     let mut text = [0u8; 16];
-    let q = rows::quoted::text(row, rows::after(row, 1, b' '), &mut text);
+    let q = quoted::text(row, rows::after(row, 1, b' '), &mut text);
     let len = q.len;
     let next = q.next;
     let said = rows::answer(row, rows::after(row, next, b' '));

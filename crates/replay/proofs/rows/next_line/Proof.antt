@@ -1,10 +1,10 @@
--- `rows::next_line` meets its contract. The invariant: the place lies between the start and the end.
+-- `replay::rows::next_line` meets its contract. The invariant: the place lies between the start and the end.
 -- The measure is what is left of the slice. Assumes nothing.
 use borrow.Author.Needs.{needs}
 use Prim.Native.Nat.{_≤_, _-_}
 use lib.ListN.{length}
-use Rattle.rows.proofs.next_line.Statement.{statement}
-use Rattle.rows.proofs.next_line.Tie as tie
+use Rattle.replay.proofs.rows.next_line.Statement.{statement}
+use Rattle.replay.proofs.rows.next_line.Tie as tie
 
 abbrev Inv-loop : tie.InvT-loop
 Inv-loop s from at₀ at = (from ≤ at) × (at ≤ length s)

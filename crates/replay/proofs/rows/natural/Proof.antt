@@ -1,10 +1,10 @@
--- `rows::natural` is safe and ends. The invariant: the value has at most 18 digits.
+-- `replay::rows::natural` is safe and ends. The invariant: the value has at most 18 digits.
 -- The measure is what is left of the slice. Assumes nothing.
 use borrow.Author.Needs.{needs}
 use Prim.Native.Nat.{_≤_, _-_}
 use lib.ListN.{length}
-use Rattle.rows.proofs.natural.Statement.{statement}
-use Rattle.rows.proofs.natural.Tie as tie
+use Rattle.replay.proofs.rows.natural.Statement.{statement}
+use Rattle.replay.proofs.rows.natural.Tie as tie
 
 abbrev Inv-loop : tie.InvT-loop
 Inv-loop s from value₀ at₀ value at = value ≤ 999999999999999999

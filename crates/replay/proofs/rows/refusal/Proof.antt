@@ -1,9 +1,9 @@
--- `rows::refusal` is safe and ends. The invariant: at most the eight bytes of the word are passed.
+-- `replay::rows::refusal` is safe and ends. The invariant: at most the eight bytes of the word are passed.
 -- The measure is how many of them are left. Assumes nothing.
 use borrow.Author.Needs.{needs}
 use Prim.Native.Nat.{_≤_, _-_}
-use Rattle.rows.proofs.refusal.Statement.{statement}
-use Rattle.rows.proofs.refusal.Tie as tie
+use Rattle.replay.proofs.rows.refusal.Statement.{statement}
+use Rattle.replay.proofs.rows.refusal.Tie as tie
 
 abbrev Inv-loop : tie.InvT-loop
 Inv-loop s at word i₀ place₀ i place = i ≤ 8

@@ -3,36 +3,34 @@
 ghost use Prim.Native.Nat.{_<_, _≤_};
 ghost use lib.ListN.{length};
 
-pub mod quoted;
-
 // A place past the end of every slice.
-pub const NOWHERE: usize = 0xffff_ffff_ffff_ffff;
+pub(crate) const NOWHERE: usize = 0xffff_ffff_ffff_ffff;
 
 // up - dn, of which one is 0, and the place after it.
-pub struct Number {
-    pub up: u64,
-    pub dn: u64,
-    pub next: usize,
+pub(crate) struct Number {
+    pub(crate) up: u64,
+    pub(crate) dn: u64,
+    pub(crate) next: usize,
 }
 
 // A number of 32 bits, and the place after it.
-pub struct Whole {
-    pub value: i32,
-    pub next: usize,
+pub(crate) struct Whole {
+    pub(crate) value: i32,
+    pub(crate) next: usize,
 }
 
 // A date with its stored hour, or the number of a refusal (0: none), and the place after it.
-pub struct Said {
-    pub refusal: u8,
-    pub year: i16,
-    pub month: u8,
-    pub day: u8,
-    pub hour: u8,
-    pub next: usize,
+pub(crate) struct Said {
+    pub(crate) refusal: u8,
+    pub(crate) year: i16,
+    pub(crate) month: u8,
+    pub(crate) day: u8,
+    pub(crate) hour: u8,
+    pub(crate) next: usize,
 }
 
 // The place after the end of the line that goes on at a place.
-pub fn next_line(s: &[u8], from: usize) -> usize
+pub(crate) fn next_line(s: &[u8], from: usize) -> usize
     requires { ⌜ from < length (now s) ⌝ }
     ensures { λ r. ⌜ (from < r) × (r ≤ length (now (s .entry))) ⌝ }
 {
@@ -47,7 +45,7 @@ pub fn next_line(s: &[u8], from: usize) -> usize
 }
 
 // The byte at a place, 0 past the end.
-pub fn byte(s: &[u8], at: usize) -> u8 {
+pub(crate) fn byte(s: &[u8], at: usize) -> u8 {
     if at < s.len() {
         return s[at];
     }
@@ -55,7 +53,7 @@ pub fn byte(s: &[u8], at: usize) -> u8 {
 }
 
 // The place after a byte that must stand at a place.
-pub fn after(s: &[u8], at: usize, b: u8) -> usize {
+pub(crate) fn after(s: &[u8], at: usize, b: u8) -> usize {
     if at < s.len() {
         if s[at] == b {
             return at + 1;
@@ -65,12 +63,12 @@ pub fn after(s: &[u8], at: usize, b: u8) -> usize {
 }
 
 // Whether a row ends at a place: with its line end, and with nothing after it.
-pub fn ends(s: &[u8], at: usize) -> bool {
+pub(crate) fn ends(s: &[u8], at: usize) -> bool {
     after(s, at, b'\n') == s.len()
 }
 
 // At least one and at most 18 digits.
-pub fn natural(s: &[u8], from: usize) -> Number {
+pub(crate) fn natural(s: &[u8], from: usize) -> Number {
     let mut value: u64 = 0;
     let mut at = from;
     while at < s.len() {
@@ -106,7 +104,7 @@ fn nothing() -> Number {
 }
 
 // Digits, with or without a minus.
-pub fn signed(s: &[u8], at: usize) -> Number {
+pub(crate) fn signed(s: &[u8], at: usize) -> Number {
     if byte(s, at) == b'-' {
         let n = natural(s, after(s, at, b'-'));
         let size = n.up;
@@ -121,7 +119,7 @@ pub fn signed(s: &[u8], at: usize) -> Number {
 }
 
 // A number of 32 bits.
-pub fn whole32(s: &[u8], at: usize) -> Whole {
+pub(crate) fn whole32(s: &[u8], at: usize) -> Whole {
     let n = signed(s, at);
     let up = n.up;
     let dn = n.dn;
@@ -141,7 +139,7 @@ pub fn whole32(s: &[u8], at: usize) -> Whole {
 }
 
 // The date of given fields.
-pub fn seen(year: i16, month: u8, day: u8, hour: u8) -> Said {
+pub(crate) fn seen(year: i16, month: u8, day: u8, hour: u8) -> Said {
     Said {
         refusal: 0,
         year,
@@ -153,7 +151,7 @@ pub fn seen(year: i16, month: u8, day: u8, hour: u8) -> Said {
 }
 
 // The refusal of a given number.
-pub fn refused(refusal: u8) -> Said {
+pub(crate) fn refused(refusal: u8) -> Said {
     Said {
         refusal,
         year: 0,
@@ -207,7 +205,7 @@ fn low(x: u64) -> u8 {
 }
 
 // `year month day hour`, each in the range of its type.
-pub fn date(s: &[u8], at: usize) -> Said {
+pub(crate) fn date(s: &[u8], at: usize) -> Said {
     let y = signed(s, at);
     let m = natural(s, after(s, y.next, b' '));
     let d = natural(s, after(s, m.next, b' '));
@@ -251,7 +249,7 @@ fn refusal(s: &[u8], at: usize) -> Said {
 }
 
 // A date or a refusal.
-pub fn answer(s: &[u8], at: usize) -> Said {
+pub(crate) fn answer(s: &[u8], at: usize) -> Said {
     if byte(s, at) == b'r' {
         return refusal(s, at);
     }
@@ -259,7 +257,7 @@ pub fn answer(s: &[u8], at: usize) -> Said {
 }
 
 // Whether two answers say the same, wherever they stood.
-pub fn same(a: Said, b: Said) -> bool {
+pub(crate) fn same(a: Said, b: Said) -> bool {
     if a.refusal == b.refusal {
         if a.year == b.year {
             if a.month == b.month {

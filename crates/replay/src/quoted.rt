@@ -1,14 +1,14 @@
 // A text in double quotes, as a row has it: bytes 0x21 to 0x7e other than `"` and `\` are themselves,
 // every other byte is `\xNN`.
-use crate::NOWHERE;
-use crate::after;
+use crate::rows::NOWHERE;
+use crate::rows::after;
 ghost use Prim.Native.Nat.{_<_, _≤_};
 ghost use lib.ListN.{length};
 
 // How many bytes the text has, and the place after it.
-pub struct Quoted {
-    pub len: usize,
-    pub next: usize,
+pub(crate) struct Quoted {
+    pub(crate) len: usize,
+    pub(crate) next: usize,
 }
 
 // One byte of the text, and the place after it.
@@ -90,7 +90,7 @@ fn single(s: &[u8], at: usize) -> Spelled
 }
 
 // The text that begins at a place, of at most 16 bytes, into `out`.
-pub fn text(s: &[u8], at: usize, out: &mut [u8; 16]) -> Quoted
+pub(crate) fn text(s: &[u8], at: usize, out: &mut [u8; 16]) -> Quoted
     ensures { λ r. ⌜ r .len ≤ 16 ⌝ }
 {
     let mut place = after(s, at, b'"');

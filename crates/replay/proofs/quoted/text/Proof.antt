@@ -1,10 +1,10 @@
--- `rows::quoted::text` meets its contract. The invariant: at most 16 bytes are written.
+-- `replay::quoted::text` meets its contract. The invariant: at most 16 bytes are written.
 -- The measure is what is left of the row. Assumes nothing.
 use borrow.Author.Needs.{needs}
 use Prim.Native.Nat.{_≤_, _-_}
 use lib.ListN.{length}
-use Rattle.rows.proofs.quoted.text.Statement.{statement}
-use Rattle.rows.proofs.quoted.text.Tie as tie
+use Rattle.replay.proofs.quoted.text.Statement.{statement}
+use Rattle.replay.proofs.quoted.text.Tie as tie
 
 abbrev Inv-loop : tie.InvT-loop
 Inv-loop s at out₀ place₀ len₀ out place len = len ≤ 16

@@ -1,4 +1,10 @@
 // Rows `K DATE DAYS DATE`: a date moved by days.
+ghost use mathlib.Core.Path.{_≡_};
+ghost use Rattle.rules.specs.Kinds.{kD, kE, kV};
+ghost use Rattle.replay.specs.Verdicts.{unaskedTold};
+ghost use Rattle.replay.specs.Asked.{oneOf, countingKinds, additionAsked};
+ghost use Rattle.replay.specs.Judged.{additionsJudged};
+ghost use Rattle.replay.specs.Views.{told};
 use crate::Verdict;
 use crate::Way;
 use crate::dates;
@@ -14,7 +20,9 @@ use expanded::Kind;
 use expanded::Made;
 use vic3_date::Vic3Date;
 
-fn date(f: Said, days: i32) -> Said {
+fn date(f: Said, days: i32) -> Said
+    ensures { λ r. ⌜ told r ≡ additionAsked kD days (told f) ⌝ }
+{
     let Made::Date(raw) = dates::packed(Kind::Date, f) else {
         return unasked();
     };
@@ -28,7 +36,9 @@ fn date(f: Said, days: i32) -> Said {
     }
 }
 
-fn eu5(f: Said, days: i32) -> Said {
+fn eu5(f: Said, days: i32) -> Said
+    ensures { λ r. ⌜ told r ≡ additionAsked kE days (told f) ⌝ }
+{
     let Made::Date(raw) = dates::packed(Kind::Eu5, f) else {
         return unasked();
     };
@@ -42,7 +52,9 @@ fn eu5(f: Said, days: i32) -> Said {
     }
 }
 
-fn vic3(f: Said, days: i32) -> Said {
+fn vic3(f: Said, days: i32) -> Said
+    ensures { λ r. ⌜ told r ≡ additionAsked kV days (told f) ⌝ }
+{
     let Made::Date(raw) = dates::packed(Kind::Vic3, f) else {
         return unasked();
     };
@@ -57,7 +69,9 @@ fn vic3(f: Said, days: i32) -> Said {
 }
 
 // What the kind of a letter answers.
-fn asked(kind: u8, f: Said, days: i32) -> Said {
+fn asked(kind: u8, f: Said, days: i32) -> Said
+    ensures { λ r. ⌜ told r ≡ oneOf countingKinds (λ k. additionAsked k days (told f)) unaskedTold kind ⌝ }
+{
     match kind {
         b'D' => date(f, days),
         b'E' => eu5(f, days),
@@ -66,7 +80,9 @@ fn asked(kind: u8, f: Said, days: i32) -> Said {
     }
 }
 
-pub(crate) fn judged(row: &[u8]) -> Verdict {
+pub(crate) fn judged(row: &[u8]) -> Verdict
+    ensures { λ r. ⌜ r ≡ additionsJudged (now (row .entry)) ⌝ }
+{
     let f = rows::date(row, rows::after(row, 1, b' '));
     let days = rows::whole32(row, rows::after(row, f.next, b' '));
     let said = rows::answer(row, rows::after(row, days.next, b' '));

@@ -1,4 +1,11 @@
 // Rows `K DATE N`: the number of a date.
+ghost use mathlib.Core.Path.{_≡_};
+ghost use mathlib.Core.List.{[], _∷_};
+ghost use Rattle.rules.specs.Kinds.{kD, kH};
+ghost use Rattle.number.specs.Views.{writtenAs};
+ghost use Rattle.replay.specs.Asked.{oneOf, noNumberAsked, orUnasked, binaryAsked};
+ghost use Rattle.replay.specs.Judged.{binariesJudged};
+ghost use Rattle.replay.specs.Views.{told, wholeAsked};
 use crate::Verdict;
 use crate::Way;
 use crate::asked_number;
@@ -16,14 +23,18 @@ use expanded::Kind;
 use expanded::Made;
 use number::Written;
 
-fn number_of(w: Written) -> Whole {
+fn number_of(w: Written) -> Whole
+    ensures { λ r. ⌜ wholeAsked r ≡ orUnasked (writtenAs w) ⌝ }
+{
     match w {
         Written::Number(n) => asked_number(n),
         Written::NotOfKind => unasked_number(),
     }
 }
 
-fn date(f: Said) -> Whole {
+fn date(f: Said) -> Whole
+    ensures { λ r. ⌜ wholeAsked r ≡ binaryAsked kD (told f) ⌝ }
+{
     let Made::Date(raw) = dates::packed(Kind::Date, f) else {
         return unasked_number();
     };
@@ -31,7 +42,9 @@ fn date(f: Said) -> Whole {
     number_of(from.to_binary())
 }
 
-fn hour(f: Said) -> Whole {
+fn hour(f: Said) -> Whole
+    ensures { λ r. ⌜ wholeAsked r ≡ binaryAsked kH (told f) ⌝ }
+{
     let Made::Date(raw) = dates::packed(Kind::Hour, f) else {
         return unasked_number();
     };
@@ -40,7 +53,9 @@ fn hour(f: Said) -> Whole {
 }
 
 // What the kind of a letter answers.
-fn asked(kind: u8, f: Said) -> Whole {
+fn asked(kind: u8, f: Said) -> Whole
+    ensures { λ r. ⌜ wholeAsked r ≡ oneOf (kD ∷ kH ∷ []) (λ k. binaryAsked k (told f)) noNumberAsked kind ⌝ }
+{
     match kind {
         b'D' => date(f),
         b'H' => hour(f),
@@ -48,7 +63,9 @@ fn asked(kind: u8, f: Said) -> Whole {
     }
 }
 
-pub(crate) fn judged(row: &[u8]) -> Verdict {
+pub(crate) fn judged(row: &[u8]) -> Verdict
+    ensures { λ r. ⌜ r ≡ binariesJudged (now (row .entry)) ⌝ }
+{
     let f = rows::date(row, rows::after(row, 1, b' '));
     let said = rows::whole32(row, rows::after(row, f.next, b' '));
     judge_number(row, said, asked(rows::byte(row, 0), f))

@@ -1,4 +1,10 @@
 // Rows `K DATE DATE N`: the days from the first date to the second.
+ghost use mathlib.Core.Path.{_≡_};
+ghost use Rattle.rules.specs.Kinds.{kD, kE, kV};
+ghost use Rattle.day_count.specs.Views.{counted};
+ghost use Rattle.replay.specs.Asked.{oneOf, countingKinds, noNumberAsked, orUnasked, differenceAsked};
+ghost use Rattle.replay.specs.Judged.{differencesJudged};
+ghost use Rattle.replay.specs.Views.{told, wholeAsked};
 use crate::Verdict;
 use crate::Way;
 use crate::asked_number;
@@ -17,14 +23,18 @@ use expanded::Kind;
 use expanded::Made;
 use vic3_date::Vic3Date;
 
-fn number_of(d: Days) -> Whole {
+fn number_of(d: Days) -> Whole
+    ensures { λ r. ⌜ wholeAsked r ≡ orUnasked (counted d) ⌝ }
+{
     match d {
         Days::Days(n) => asked_number(n),
         Days::NotOfKind => unasked_number(),
     }
 }
 
-fn date(f: Said, g: Said) -> Whole {
+fn date(f: Said, g: Said) -> Whole
+    ensures { λ r. ⌜ wholeAsked r ≡ differenceAsked kD (told f) (told g) ⌝ }
+{
     let Made::Date(raw) = dates::packed(Kind::Date, f) else {
         return unasked_number();
     };
@@ -35,7 +45,9 @@ fn date(f: Said, g: Said) -> Whole {
     number_of(from.days_until(Date { raw: other }))
 }
 
-fn eu5(f: Said, g: Said) -> Whole {
+fn eu5(f: Said, g: Said) -> Whole
+    ensures { λ r. ⌜ wholeAsked r ≡ differenceAsked kE (told f) (told g) ⌝ }
+{
     let Made::Date(raw) = dates::packed(Kind::Eu5, f) else {
         return unasked_number();
     };
@@ -46,7 +58,9 @@ fn eu5(f: Said, g: Said) -> Whole {
     number_of(from.days_until(Eu5Date { raw: other }))
 }
 
-fn vic3(f: Said, g: Said) -> Whole {
+fn vic3(f: Said, g: Said) -> Whole
+    ensures { λ r. ⌜ wholeAsked r ≡ differenceAsked kV (told f) (told g) ⌝ }
+{
     let Made::Date(raw) = dates::packed(Kind::Vic3, f) else {
         return unasked_number();
     };
@@ -58,7 +72,9 @@ fn vic3(f: Said, g: Said) -> Whole {
 }
 
 // What the kind of a letter answers.
-fn asked(kind: u8, f: Said, g: Said) -> Whole {
+fn asked(kind: u8, f: Said, g: Said) -> Whole
+    ensures { λ r. ⌜ wholeAsked r ≡ oneOf countingKinds (λ k. differenceAsked k (told f) (told g)) noNumberAsked kind ⌝ }
+{
     match kind {
         b'D' => date(f, g),
         b'E' => eu5(f, g),
@@ -67,7 +83,9 @@ fn asked(kind: u8, f: Said, g: Said) -> Whole {
     }
 }
 
-pub(crate) fn judged(row: &[u8]) -> Verdict {
+pub(crate) fn judged(row: &[u8]) -> Verdict
+    ensures { λ r. ⌜ r ≡ differencesJudged (now (row .entry)) ⌝ }
+{
     let f = rows::date(row, rows::after(row, 1, b' '));
     let g = rows::date(row, rows::after(row, f.next, b' '));
     let said = rows::whole32(row, rows::after(row, g.next, b' '));

@@ -1,4 +1,10 @@
 // Rows `K YEAR MONTH DAY HOUR DATE`: the date of given fields. D, U and E are asked without an hour, and their rows have 0 there.
+ghost use mathlib.Core.Path.{_≡_};
+ghost use Rattle.rules.specs.Kinds.{kR, kD, kH, kU, kE, kV};
+ghost use Rattle.replay.specs.Verdicts.{unaskedTold};
+ghost use Rattle.replay.specs.Asked.{oneOf, allKinds, fieldsAsked};
+ghost use Rattle.replay.specs.Judged.{fieldsJudged};
+ghost use Rattle.replay.specs.Views.{told};
 use crate::Verdict;
 use crate::Way;
 use crate::dates;
@@ -15,7 +21,9 @@ use raw_date::RawDate;
 use uniform_date::UniformDate;
 use vic3_date::Vic3Date;
 
-fn raw(f: Said) -> Said {
+fn raw(f: Said) -> Said
+    ensures { λ r. ⌜ told r ≡ fieldsAsked kR (told f) ⌝ }
+{
     let p = RawDate::from_ymdh_opt(f.year, f.month, f.day, f.hour);
     match p {
         raw_date::Made::Date(d) => dates::raw(d),
@@ -23,7 +31,9 @@ fn raw(f: Said) -> Said {
     }
 }
 
-fn date(f: Said) -> Said {
+fn date(f: Said) -> Said
+    ensures { λ r. ⌜ told r ≡ fieldsAsked kD (told f) ⌝ }
+{
     if f.hour != 0 {
         return unasked();
     }
@@ -34,7 +44,9 @@ fn date(f: Said) -> Said {
     }
 }
 
-fn hour(f: Said) -> Said {
+fn hour(f: Said) -> Said
+    ensures { λ r. ⌜ told r ≡ fieldsAsked kH (told f) ⌝ }
+{
     let p = DateHour::from_ymdh_opt(f.year, f.month, f.day, f.hour);
     match p {
         date_hour::Made::Date(d) => dates::hour(d),
@@ -42,7 +54,9 @@ fn hour(f: Said) -> Said {
     }
 }
 
-fn uniform(f: Said) -> Said {
+fn uniform(f: Said) -> Said
+    ensures { λ r. ⌜ told r ≡ fieldsAsked kU (told f) ⌝ }
+{
     if f.hour != 0 {
         return unasked();
     }
@@ -53,7 +67,9 @@ fn uniform(f: Said) -> Said {
     }
 }
 
-fn eu5(f: Said) -> Said {
+fn eu5(f: Said) -> Said
+    ensures { λ r. ⌜ told r ≡ fieldsAsked kE (told f) ⌝ }
+{
     if f.hour != 0 {
         return unasked();
     }
@@ -64,7 +80,9 @@ fn eu5(f: Said) -> Said {
     }
 }
 
-fn vic3(f: Said) -> Said {
+fn vic3(f: Said) -> Said
+    ensures { λ r. ⌜ told r ≡ fieldsAsked kV (told f) ⌝ }
+{
     let p = Vic3Date::from_ymdh_opt(f.year, f.month, f.day, f.hour);
     match p {
         vic3_date::Made::Date(d) => dates::vic3(d),
@@ -73,7 +91,9 @@ fn vic3(f: Said) -> Said {
 }
 
 // What the kind of a letter answers.
-fn asked(kind: u8, f: Said) -> Said {
+fn asked(kind: u8, f: Said) -> Said
+    ensures { λ r. ⌜ told r ≡ oneOf allKinds (λ k. fieldsAsked k (told f)) unaskedTold kind ⌝ }
+{
     match kind {
         b'R' => raw(f),
         b'D' => date(f),
@@ -85,7 +105,9 @@ fn asked(kind: u8, f: Said) -> Said {
     }
 }
 
-pub(crate) fn judged(row: &[u8]) -> Verdict {
+pub(crate) fn judged(row: &[u8]) -> Verdict
+    ensures { λ r. ⌜ r ≡ fieldsJudged (now (row .entry)) ⌝ }
+{
     let f = rows::date(row, rows::after(row, 1, b' '));
     let said = rows::answer(row, rows::after(row, f.next, b' '));
     judge(row, said, asked(rows::byte(row, 0), f))

@@ -1,4 +1,11 @@
 // Rows `K b N DATE` and `K g N DATE`: the full decoder and the guess.
+ghost use mathlib.Core.Path.{_≡_};
+ghost use mathlib.Core.List.{[], _∷_};
+ghost use Rattle.rules.specs.Kinds.{kR, kD, kH, kE, kV};
+ghost use Rattle.replay.specs.Verdicts.{unaskedTold};
+ghost use Rattle.replay.specs.Asked.{oneOf, numberAsked, guessAsked, numbersAsked};
+ghost use Rattle.replay.specs.Judged.{numbersJudged};
+ghost use Rattle.replay.specs.Views.{told};
 use crate::Verdict;
 use crate::Way;
 use crate::dates;
@@ -14,7 +21,9 @@ use eu5_date::Eu5Date;
 use raw_date::RawDate;
 use vic3_date::Vic3Date;
 
-fn raw(n: i32) -> Said {
+fn raw(n: i32) -> Said
+    ensures { λ r. ⌜ told r ≡ numberAsked kR n ⌝ }
+{
     let p = RawDate::from_binary(n);
     match p {
         raw_date::Decoded::Date(d) => dates::raw(d),
@@ -22,7 +31,9 @@ fn raw(n: i32) -> Said {
     }
 }
 
-fn date(n: i32) -> Said {
+fn date(n: i32) -> Said
+    ensures { λ r. ⌜ told r ≡ numberAsked kD n ⌝ }
+{
     let p = Date::from_binary(n);
     match p {
         date::Decoded::Date(d) => dates::date(d),
@@ -30,7 +41,9 @@ fn date(n: i32) -> Said {
     }
 }
 
-fn hour(n: i32) -> Said {
+fn hour(n: i32) -> Said
+    ensures { λ r. ⌜ told r ≡ numberAsked kH n ⌝ }
+{
     let p = DateHour::from_binary(n);
     match p {
         date_hour::Decoded::Date(d) => dates::hour(d),
@@ -38,7 +51,9 @@ fn hour(n: i32) -> Said {
     }
 }
 
-fn eu5(n: i32) -> Said {
+fn eu5(n: i32) -> Said
+    ensures { λ r. ⌜ told r ≡ numberAsked kE n ⌝ }
+{
     let p = Eu5Date::from_binary(n);
     match p {
         eu5_date::Decoded::Date(d) => dates::eu5(d),
@@ -46,7 +61,9 @@ fn eu5(n: i32) -> Said {
     }
 }
 
-fn vic3(n: i32) -> Said {
+fn vic3(n: i32) -> Said
+    ensures { λ r. ⌜ told r ≡ numberAsked kV n ⌝ }
+{
     let p = Vic3Date::from_binary(n);
     match p {
         vic3_date::Decoded::Date(d) => dates::vic3(d),
@@ -54,7 +71,9 @@ fn vic3(n: i32) -> Said {
     }
 }
 
-fn date_guess(n: i32) -> Said {
+fn date_guess(n: i32) -> Said
+    ensures { λ r. ⌜ told r ≡ guessAsked kD n ⌝ }
+{
     let p = Date::from_binary_heuristic(n);
     match p {
         date::Guessed::Date(d) => dates::date(d),
@@ -62,7 +81,9 @@ fn date_guess(n: i32) -> Said {
     }
 }
 
-fn hour_guess(n: i32) -> Said {
+fn hour_guess(n: i32) -> Said
+    ensures { λ r. ⌜ told r ≡ guessAsked kH n ⌝ }
+{
     let p = DateHour::from_binary_heuristic(n);
     match p {
         date_hour::Guessed::Date(d) => dates::hour(d),
@@ -70,7 +91,9 @@ fn hour_guess(n: i32) -> Said {
     }
 }
 
-fn eu5_guess(n: i32) -> Said {
+fn eu5_guess(n: i32) -> Said
+    ensures { λ r. ⌜ told r ≡ guessAsked kE n ⌝ }
+{
     let p = Eu5Date::from_binary_heuristic(n);
     match p {
         eu5_date::Guessed::Date(d) => dates::eu5(d),
@@ -78,7 +101,9 @@ fn eu5_guess(n: i32) -> Said {
     }
 }
 
-fn vic3_guess(n: i32) -> Said {
+fn vic3_guess(n: i32) -> Said
+    ensures { λ r. ⌜ told r ≡ guessAsked kV n ⌝ }
+{
     let p = Vic3Date::from_binary_heuristic(n);
     match p {
         vic3_date::Guessed::Date(d) => dates::vic3(d),
@@ -87,7 +112,9 @@ fn vic3_guess(n: i32) -> Said {
 }
 
 // The full decoder of the kind of a letter.
-fn decoded(kind: u8, n: i32) -> Said {
+fn decoded(kind: u8, n: i32) -> Said
+    ensures { λ r. ⌜ told r ≡ oneOf (kR ∷ kD ∷ kH ∷ kE ∷ kV ∷ []) (λ k. numberAsked k n) unaskedTold kind ⌝ }
+{
     match kind {
         b'R' => raw(n),
         b'D' => date(n),
@@ -99,7 +126,9 @@ fn decoded(kind: u8, n: i32) -> Said {
 }
 
 // The guess of the kind of a letter.
-fn guessed(kind: u8, n: i32) -> Said {
+fn guessed(kind: u8, n: i32) -> Said
+    ensures { λ r. ⌜ told r ≡ oneOf (kD ∷ kH ∷ kE ∷ kV ∷ []) (λ k. guessAsked k n) unaskedTold kind ⌝ }
+{
     match kind {
         b'D' => date_guess(n),
         b'H' => hour_guess(n),
@@ -109,7 +138,9 @@ fn guessed(kind: u8, n: i32) -> Said {
     }
 }
 
-fn asked(kind: u8, way: u8, n: i32) -> Said {
+fn asked(kind: u8, way: u8, n: i32) -> Said
+    ensures { λ r. ⌜ told r ≡ numbersAsked kind way n ⌝ }
+{
     match way {
         b'b' => decoded(kind, n),
         b'g' => guessed(kind, n),
@@ -117,7 +148,9 @@ fn asked(kind: u8, way: u8, n: i32) -> Said {
     }
 }
 
-pub(crate) fn judged(row: &[u8]) -> Verdict {
+pub(crate) fn judged(row: &[u8]) -> Verdict
+    ensures { λ r. ⌜ r ≡ numbersJudged (now (row .entry)) ⌝ }
+{
     let way = rows::byte(row, rows::after(row, 1, b' '));
     let n = rows::whole32(row, rows::after(row, 3, b' '));
     let said = rows::answer(row, rows::after(row, n.next, b' '));

@@ -1,4 +1,10 @@
 // Rows `K DATE DATE N`: the order of two dates, -1, 0 or 1.
+ghost use mathlib.Core.Path.{_≡_};
+ghost use Rattle.rules.specs.Kinds.{kR, kD, kH, kU, kE, kV};
+ghost use Rattle.expanded.specs.Views.{ordered};
+ghost use Rattle.replay.specs.Asked.{oneOf, allKinds, noNumberAsked, ordering, orderAsked};
+ghost use Rattle.replay.specs.Judged.{ordersJudged};
+ghost use Rattle.replay.specs.Views.{told, wholeAsked};
 use crate::Verdict;
 use crate::Way;
 use crate::asked_number;
@@ -20,7 +26,9 @@ use raw_date::RawDate;
 use uniform_date::UniformDate;
 use vic3_date::Vic3Date;
 
-fn number_of(o: Ordered) -> Whole {
+fn number_of(o: Ordered) -> Whole
+    ensures { λ r. ⌜ wholeAsked r ≡ ordering (ordered o) ⌝ }
+{
     match o {
         Ordered::Before => asked_number(-1),
         Ordered::Same => asked_number(0),
@@ -29,7 +37,9 @@ fn number_of(o: Ordered) -> Whole {
     }
 }
 
-fn raw(f: Said, g: Said) -> Whole {
+fn raw(f: Said, g: Said) -> Whole
+    ensures { λ r. ⌜ wholeAsked r ≡ orderAsked kR (told f) (told g) ⌝ }
+{
     let Made::Date(raw) = dates::packed(Kind::Raw, f) else {
         return unasked_number();
     };
@@ -40,7 +50,9 @@ fn raw(f: Said, g: Said) -> Whole {
     number_of(from.compare(RawDate { raw: other }))
 }
 
-fn date(f: Said, g: Said) -> Whole {
+fn date(f: Said, g: Said) -> Whole
+    ensures { λ r. ⌜ wholeAsked r ≡ orderAsked kD (told f) (told g) ⌝ }
+{
     let Made::Date(raw) = dates::packed(Kind::Date, f) else {
         return unasked_number();
     };
@@ -51,7 +63,9 @@ fn date(f: Said, g: Said) -> Whole {
     number_of(from.compare(Date { raw: other }))
 }
 
-fn hour(f: Said, g: Said) -> Whole {
+fn hour(f: Said, g: Said) -> Whole
+    ensures { λ r. ⌜ wholeAsked r ≡ orderAsked kH (told f) (told g) ⌝ }
+{
     let Made::Date(raw) = dates::packed(Kind::Hour, f) else {
         return unasked_number();
     };
@@ -62,7 +76,9 @@ fn hour(f: Said, g: Said) -> Whole {
     number_of(from.compare(DateHour { raw: other }))
 }
 
-fn uniform(f: Said, g: Said) -> Whole {
+fn uniform(f: Said, g: Said) -> Whole
+    ensures { λ r. ⌜ wholeAsked r ≡ orderAsked kU (told f) (told g) ⌝ }
+{
     let Made::Date(raw) = dates::packed(Kind::Uniform, f) else {
         return unasked_number();
     };
@@ -73,7 +89,9 @@ fn uniform(f: Said, g: Said) -> Whole {
     number_of(from.compare(UniformDate { raw: other }))
 }
 
-fn eu5(f: Said, g: Said) -> Whole {
+fn eu5(f: Said, g: Said) -> Whole
+    ensures { λ r. ⌜ wholeAsked r ≡ orderAsked kE (told f) (told g) ⌝ }
+{
     let Made::Date(raw) = dates::packed(Kind::Eu5, f) else {
         return unasked_number();
     };
@@ -84,7 +102,9 @@ fn eu5(f: Said, g: Said) -> Whole {
     number_of(from.compare(Eu5Date { raw: other }))
 }
 
-fn vic3(f: Said, g: Said) -> Whole {
+fn vic3(f: Said, g: Said) -> Whole
+    ensures { λ r. ⌜ wholeAsked r ≡ orderAsked kV (told f) (told g) ⌝ }
+{
     let Made::Date(raw) = dates::packed(Kind::Vic3, f) else {
         return unasked_number();
     };
@@ -96,7 +116,9 @@ fn vic3(f: Said, g: Said) -> Whole {
 }
 
 // What the kind of a letter answers.
-fn asked(kind: u8, f: Said, g: Said) -> Whole {
+fn asked(kind: u8, f: Said, g: Said) -> Whole
+    ensures { λ r. ⌜ wholeAsked r ≡ oneOf allKinds (λ k. orderAsked k (told f) (told g)) noNumberAsked kind ⌝ }
+{
     match kind {
         b'R' => raw(f, g),
         b'D' => date(f, g),
@@ -108,7 +130,9 @@ fn asked(kind: u8, f: Said, g: Said) -> Whole {
     }
 }
 
-pub(crate) fn judged(row: &[u8]) -> Verdict {
+pub(crate) fn judged(row: &[u8]) -> Verdict
+    ensures { λ r. ⌜ r ≡ ordersJudged (now (row .entry)) ⌝ }
+{
     let f = rows::date(row, rows::after(row, 1, b' '));
     let g = rows::date(row, rows::after(row, f.next, b' '));
     let said = rows::whole32(row, rows::after(row, g.next, b' '));

@@ -1,4 +1,9 @@
 // Rows `K "TEXT" DATE`: what a kind reads a text as.
+ghost use mathlib.Core.Path.{_≡_};
+ghost use Rattle.rules.specs.Kinds.{kR, kD, kH, kU, kE, kV};
+ghost use Rattle.replay.specs.Verdicts.{unaskedTold};
+ghost use Rattle.replay.specs.Asked.{oneOf, allKinds, textAsked};
+ghost use Rattle.replay.specs.Views.{told};
 use crate::Verdict;
 use crate::Way;
 use crate::dates;
@@ -16,7 +21,9 @@ use raw_date::RawDate;
 use uniform_date::UniformDate;
 use vic3_date::Vic3Date;
 
-fn raw(text: &[u8]) -> Said {
+fn raw(text: &[u8]) -> Said
+    ensures { λ r. ⌜ told r ≡ textAsked kR (now (text .entry)) ⌝ }
+{
     let p = RawDate::parse(text);
     match p {
         raw_date::Parsed::Date(d) => dates::raw(d),
@@ -25,7 +32,9 @@ fn raw(text: &[u8]) -> Said {
     }
 }
 
-fn date(text: &[u8]) -> Said {
+fn date(text: &[u8]) -> Said
+    ensures { λ r. ⌜ told r ≡ textAsked kD (now (text .entry)) ⌝ }
+{
     let p = Date::parse(text);
     match p {
         date::Parsed::Date(d) => dates::date(d),
@@ -34,7 +43,9 @@ fn date(text: &[u8]) -> Said {
     }
 }
 
-fn hour(text: &[u8]) -> Said {
+fn hour(text: &[u8]) -> Said
+    ensures { λ r. ⌜ told r ≡ textAsked kH (now (text .entry)) ⌝ }
+{
     let p = DateHour::parse(text);
     match p {
         date_hour::Parsed::Date(d) => dates::hour(d),
@@ -43,7 +54,9 @@ fn hour(text: &[u8]) -> Said {
     }
 }
 
-fn uniform(text: &[u8]) -> Said {
+fn uniform(text: &[u8]) -> Said
+    ensures { λ r. ⌜ told r ≡ textAsked kU (now (text .entry)) ⌝ }
+{
     let p = UniformDate::parse(text);
     match p {
         uniform_date::Parsed::Date(d) => dates::uniform(d),
@@ -52,7 +65,9 @@ fn uniform(text: &[u8]) -> Said {
     }
 }
 
-fn eu5(text: &[u8]) -> Said {
+fn eu5(text: &[u8]) -> Said
+    ensures { λ r. ⌜ told r ≡ textAsked kE (now (text .entry)) ⌝ }
+{
     let p = Eu5Date::parse(text);
     match p {
         eu5_date::Parsed::Date(d) => dates::eu5(d),
@@ -61,7 +76,9 @@ fn eu5(text: &[u8]) -> Said {
     }
 }
 
-fn vic3(text: &[u8]) -> Said {
+fn vic3(text: &[u8]) -> Said
+    ensures { λ r. ⌜ told r ≡ textAsked kV (now (text .entry)) ⌝ }
+{
     let p = Vic3Date::parse(text);
     match p {
         vic3_date::Parsed::Date(d) => dates::vic3(d),
@@ -71,7 +88,9 @@ fn vic3(text: &[u8]) -> Said {
 }
 
 // What the kind of a letter answers.
-fn asked(kind: u8, text: &[u8]) -> Said {
+fn asked(kind: u8, text: &[u8]) -> Said
+    ensures { λ r. ⌜ told r ≡ oneOf allKinds (λ k. textAsked k (now (text .entry))) unaskedTold kind ⌝ }
+{
     match kind {
         b'R' => raw(text),
         b'D' => date(text),

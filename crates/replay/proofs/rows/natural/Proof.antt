@@ -1,33 +1,19 @@
--- `replay::rows::natural` is safe and ends. The invariant: the value has at most 18 digits.
--- The measure is what is left of the slice. Assumes nothing.
+-- `replay::rows::natural` meets its contract: by whether a digit stands there. Assumes nothing.
+use Rattle.replay.specs.Rows.{naturalOf}
 use borrow.Author.Needs.{needs}
-use Prim.Native.Nat.{_≤_, _-_}
-use lib.ListN.{length}
 use Rattle.replay.proofs.rows.natural.Statement.{statement}
 use Rattle.replay.proofs.rows.natural.Tie as tie
 
-abbrev Inv-loop : tie.InvT-loop
-Inv-loop s from value₀ at₀ value at = value ≤ 999999999999999999
+returns : tie.Need-returns
+unfolding naturalOf
+returns c =
+    rw (c .digits .ensures, ← (c .before .before .digit-at .ensures), c .before .if1 .taken)
 
-abbrev μ-loop : tie.MeasureT-loop
-μ-loop s from value₀ at₀ value at = length s - at
+returns-2 : tie.Need-returns-2
+unfolding naturalOf
+returns-2 c =
+    rw (c .nothing .ensures, ← (c .before .before .digit-at .ensures), c .before .if1 .left)
 
 pub natural-spec : {M : Type 1} → statement M
 natural-spec =
-    tie.close
-    (tie.spec
-    Inv-loop
-    μ-loop
-    (λ c. search needs)
-    (λ c. search needs)
-    (λ c κs. search needs)
-    (λ c. search needs)
-    (λ c. search needs)
-    (λ c. search needs)
-    (λ c. search needs)
-    (λ c. search needs)
-    (λ c. search needs)
-    (λ c. search needs)
-    (λ c κs. search needs)
-    (λ c. search needs)
-    (λ c. search needs))
+    tie.close (tie.spec (λ c κs. search needs) (λ c κs. search needs) returns (λ c κs. search needs) returns-2)

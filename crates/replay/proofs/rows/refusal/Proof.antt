@@ -1,31 +1,22 @@
--- `replay::rows::refusal` is safe and ends. The invariant: at most the eight bytes of the word are passed.
--- The measure is how many of them are left. Assumes nothing.
+-- `replay::rows::refusal` meets its contract: the number after the word, where it is a byte. Assumes nothing.
+use native.Mathlib.Omega.{arith}
+use borrow.Author.Tests.{le-leb, lt-leb}
+use Rattle.replay.specs.Rows.{refusalOf}
 use borrow.Author.Needs.{needs}
-use Prim.Native.Nat.{_≤_, _-_}
 use Rattle.replay.proofs.rows.refusal.Statement.{statement}
 use Rattle.replay.proofs.rows.refusal.Tie as tie
 
-abbrev Inv-loop : tie.InvT-loop
-Inv-loop s at word i₀ place₀ i place = i ≤ 8
+returns : tie.Need-returns
+unfolding refusalOf
+returns c =
+    rw (← (c .before .before .after-refused .ensures), ← (c .before .natural .ensures), le-leb _ _ (c .if1 .taken))
 
-abbrev μ-loop : tie.MeasureT-loop
-μ-loop s at word i₀ place₀ i place = 8 - i
+returns-2 : tie.Need-returns-2
+unfolding refusalOf
+returns-2 c =
+    rw (c .no-answer .ensures, ← (c .before .before .before .after-refused .ensures), ← (c .before .before .natural .ensures), lt-leb _ _ (c .before .if1 .left))
 
 pub refusal-spec : {M : Type 1} → statement M
 refusal-spec =
     tie.close
-    (tie.spec
-    Inv-loop
-    μ-loop
-    (λ c. search needs)
-    (λ c. search needs)
-    (λ c κs. search needs)
-    (λ c. search needs)
-    (λ c. search needs)
-    (λ c. search needs)
-    (λ c κs. search needs)
-    (λ c κs. search needs)
-    (λ c κs. search needs)
-    (λ c. search needs)
-    (λ c κs. search needs)
-    (λ c. search needs))
+    (tie.spec (λ c κs. search needs) (λ c κs. search needs) (λ c. search needs) returns (λ c κs. search needs) returns-2)

@@ -1,0 +1,5 @@
+pub mod Asked
+pub mod Judged
+pub mod Rows
+pub mod Verdicts
+pub mod Views

@@ -12,7 +12,7 @@ use lib.Signed.{leZ}
 use mir.Syntax.{Width}
 use mir.Val.{toZ, ofZ, SFits}
 use mir.ValLaws.{toZ-ofZ}
-use borrow.Author.Tests.{le-leb, lt-leb, leb-true, leb-false, eq-eqb, ne-eqb}
+use borrow.Author.Tests.{le-leb, lt-leb, leb-true, leb-false, eq-eqb, ne-eqb, eqb-true}
 use Rattle.rules.specs.Words.{eqZ}
 use Rattle.rules.specs.Refusals.{Answer, Gives, Refused, _then_, demand, notText}
 use Rattle.rules.specs.Text.{Read, digits, afterDigits, atEnd}
@@ -20,6 +20,7 @@ use Rattle.rules.proofs.Rests.{here, past}
 use Rattle.rules.proofs.KindLaws.{left, right}
 use Rattle.scalar.specs.Number.{most63, valueFrom, partialOf}
 use Rattle.scalar.proofs.Laws.{goes-on, stops-low, stops-high, stops-end}
+use Rattle.replay.specs.Verdicts.{sameTold}
 use Rattle.replay.specs.Rows.{Told, dateTold, afterByte, afterWord, mostOfRow, rowDigits, rowLength}
 
 -- ---- tests
@@ -41,6 +42,30 @@ eqZ-same (pos a) (negsuc b) e = never e
 eqZ-same (negsuc a) (pos b) e = never e
 eqZ-same (negsuc a) (negsuc b) e =
     let l = leb-true b a (left (leb b a) (leb a b) e) in let r = leb-true a b (right (leb b a) (leb a b) e) in ap negsuc (omega arith)
+
+-- what is told is the same only where it is equal
+pub told-same : (a b : Told) → sameTold a b ≡ true → a ≡ b
+told-same a b e =
+    let r = eqb (a .refusal) (b .refusal) in let y = eqZ (a .year) (b .year) in
+    let m = eqb (a .month) (b .month) in let d = eqb (a .day) (b .day) in let h = eqb (a .hour) (b .hour) in
+    let e₁ = right r (y && (m && (d && h))) e in let e₂ = right y (m && (d && h)) e₁ in let e₃ = right m (d && h) e₂ in
+    let p = eqb-true (a .refusal) (b .refusal) (left r (y && (m && (d && h))) e) in
+    let q = eqZ-same (a .year) (b .year) (left y (m && (d && h)) e₁) in
+    let s = eqb-true (a .month) (b .month) (left m (d && h) e₂) in
+    let t = eqb-true (a .day) (b .day) (left d h e₃) in
+    let u = eqb-true (a .hour) (b .hour) (right d h e₃) in
+    λ i. record { refusal = p i; year = q i; month = s i; day = t i; hour = u i }
+
+-- and always where it is
+pub same-told : (a : Told) → sameTold a a ≡ true
+same-told a =
+    rw (
+      eq-eqb (a .refusal) (a .refusal) refl,
+      same-eqZ (a .year) (a .year) refl,
+      eq-eqb (a .month) (a .month) refl,
+      eq-eqb (a .day) (a .day) refl,
+      eq-eqb (a .hour) (a .hour) refl,
+    )
 
 -- the code compares their bits
 same-bits : (w : Width) (a b : ℤ) → SFits w a → SFits w b → ofZ w a ≡ ofZ w b → a ≡ b

@@ -2,8 +2,10 @@
 // every other byte is `\xNN`.
 use crate::rows::NOWHERE;
 use crate::rows::after;
+ghost use mathlib.Core.Path.{_≡_};
 ghost use Prim.Native.Nat.{_<_, _≤_};
-ghost use lib.ListN.{length};
+ghost use lib.ListN.{length, drop};
+ghost use Rattle.replay.specs.Quoted.{hexValue, escapedOf, singleOf, spelled};
 
 // How many bytes the text has, and the place after it.
 pub(crate) struct Quoted {
@@ -27,7 +29,9 @@ fn no_text() -> Quoted
 }
 
 // The value of a hexadecimal digit, or 16.
-fn hex_digit(b: u8) -> u8 {
+fn hex_digit(b: u8) -> u8
+    ensures { λ r. ⌜ r ≡ hexValue b ⌝ }
+{
     if b'0' <= b {
         if b <= b'9' {
             return b - b'0';
@@ -45,6 +49,7 @@ fn hex_digit(b: u8) -> u8 {
 fn escaped(s: &[u8], at: usize) -> Spelled
     requires { ⌜ at < length (now s) ⌝ }
     ensures { λ r. ⌜ at < r .next ⌝ }
+    ensures { λ r. ⌜ spelled (now (s .entry)) r ≡ escapedOf (drop at (now (s .entry))) ⌝ }
 {
     if 3 < s.len() - at {
         let high = hex_digit(s[at + 2]);
@@ -70,6 +75,7 @@ fn escaped(s: &[u8], at: usize) -> Spelled
 fn single(s: &[u8], at: usize) -> Spelled
     requires { ⌜ at < length (now s) ⌝ }
     ensures { λ r. ⌜ at < r .next ⌝ }
+    ensures { λ r. ⌜ spelled (now (s .entry)) r ≡ singleOf (drop at (now (s .entry))) ⌝ }
 {
     let b = s[at];
     if b == b'\\' {

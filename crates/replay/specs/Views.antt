@@ -11,7 +11,7 @@ use Rattle.replay.specs.Rows as R
 use Rattle.replay.specs.Verdicts.{unaskedNumber}
 use Rattle.replay.specs.declared.rows.Number.{Number}
 use Rattle.replay.specs.declared.rows.Whole.{Whole}
-use Rattle.replay.specs.declared.rows.Said.{Said}
+use Rattle.replay.specs.declared.answers.Said.{Said}
 
 -- a place past the end of every slice
 abbrev pub nowhere : ℕ

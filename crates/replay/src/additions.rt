@@ -7,11 +7,12 @@ ghost use Rattle.replay.specs.Judged.{additionsJudged};
 ghost use Rattle.replay.specs.Views.{told};
 use crate::Verdict;
 use crate::Way;
+use crate::answers;
+use crate::answers::Said;
 use crate::dates;
 use crate::judge;
 use crate::line;
 use crate::rows;
-use crate::rows::Said;
 use crate::unasked;
 use crate::unread;
 use date::Date;
@@ -30,9 +31,9 @@ fn date(f: Said, days: i32) -> Said
     let p = from.add_days(days);
     match p {
         date::Summed::Date(d) => dates::date(d),
-        date::Summed::NotOfKind => rows::refused(4),
-        date::Summed::Overflow => rows::refused(5),
-        date::Summed::OutOfRange => rows::refused(6),
+        date::Summed::NotOfKind => answers::refused(4),
+        date::Summed::Overflow => answers::refused(5),
+        date::Summed::OutOfRange => answers::refused(6),
     }
 }
 
@@ -46,9 +47,9 @@ fn eu5(f: Said, days: i32) -> Said
     let p = from.add_days(days);
     match p {
         eu5_date::Summed::Date(d) => dates::eu5(d),
-        eu5_date::Summed::NotOfKind => rows::refused(4),
-        eu5_date::Summed::Overflow => rows::refused(5),
-        eu5_date::Summed::OutOfRange => rows::refused(6),
+        eu5_date::Summed::NotOfKind => answers::refused(4),
+        eu5_date::Summed::Overflow => answers::refused(5),
+        eu5_date::Summed::OutOfRange => answers::refused(6),
     }
 }
 
@@ -62,9 +63,9 @@ fn vic3(f: Said, days: i32) -> Said
     let p = from.add_days(days);
     match p {
         vic3_date::Summed::Date(d) => dates::vic3(d),
-        vic3_date::Summed::NotOfKind => rows::refused(4),
-        vic3_date::Summed::Overflow => rows::refused(5),
-        vic3_date::Summed::OutOfRange => rows::refused(6),
+        vic3_date::Summed::NotOfKind => answers::refused(4),
+        vic3_date::Summed::Overflow => answers::refused(5),
+        vic3_date::Summed::OutOfRange => answers::refused(6),
     }
 }
 
@@ -83,12 +84,13 @@ fn asked(kind: u8, f: Said, days: i32) -> Said
 pub(crate) fn judged(row: &[u8]) -> Verdict
     ensures { λ r. ⌜ r ≡ additionsJudged (now (row .entry)) ⌝ }
 {
-    let f = rows::date(row, rows::after(row, 1, b' '));
+    let f = answers::date(row, rows::after(row, 1, b' '));
     let days = rows::whole32(row, rows::after(row, f.next, b' '));
-    let said = rows::answer(row, rows::after(row, days.next, b' '));
+    let said = answers::answer(row, rows::after(row, days.next, b' '));
     judge(row, said, asked(rows::byte(row, 0), f, days.value))
 }
 
+// It prints, which no contract can say.
 pub fn report(s: &[u8]) {
     line(Way::Additions, s, b'D', b'a');
     line(Way::Additions, s, b'E', b'a');

@@ -4,8 +4,8 @@ ghost use Rattle.rules.specs.Refusals.{notOfKind};
 ghost use Rattle.expanded.specs.Views.{kindOf, answer};
 ghost use Rattle.replay.specs.Asked.{shownBits, dateNamed};
 ghost use Rattle.replay.specs.Views.{told};
-use crate::rows;
-use crate::rows::Said;
+use crate::answers;
+use crate::answers::Said;
 use date::Date;
 use date_hour::DateHour;
 use eu5_date::Eu5Date;
@@ -18,38 +18,38 @@ use vic3_date::Vic3Date;
 pub(crate) fn raw(d: RawDate) -> Said
     ensures { λ r. ⌜ told r ≡ shownBits (d .raw .year) (d .raw .word) ⌝ }
 {
-    rows::seen(d.year(), d.month(), d.day(), d.hour())
+    answers::seen(d.year(), d.month(), d.day(), d.hour())
 }
 
 pub(crate) fn date(d: Date) -> Said
     ensures { λ r. ⌜ told r ≡ shownBits (d .raw .year) (d .raw .word) ⌝ }
 {
-    rows::seen(d.year(), d.month(), d.day(), d.hour())
+    answers::seen(d.year(), d.month(), d.day(), d.hour())
 }
 
 pub(crate) fn hour(d: DateHour) -> Said
     ensures { λ r. ⌜ told r ≡ shownBits (d .raw .year) (d .raw .word) ⌝ }
 {
-    rows::seen(d.year(), d.month(), d.day(), d.hour())
+    answers::seen(d.year(), d.month(), d.day(), d.hour())
 }
 
 pub(crate) fn uniform(d: UniformDate) -> Said
     ensures { λ r. ⌜ told r ≡ shownBits (d .raw .year) (d .raw .word) ⌝ }
 {
-    rows::seen(d.year(), d.month(), d.day(), d.hour())
+    answers::seen(d.year(), d.month(), d.day(), d.hour())
 }
 
 // The stored hour of this kind is its component.
 pub(crate) fn eu5(d: Eu5Date) -> Said
     ensures { λ r. ⌜ told r ≡ shownBits (d .raw .year) (d .raw .word) ⌝ }
 {
-    rows::seen(d.year(), d.month(), d.day(), d.component())
+    answers::seen(d.year(), d.month(), d.day(), d.component())
 }
 
 pub(crate) fn vic3(d: Vic3Date) -> Said
     ensures { λ r. ⌜ told r ≡ shownBits (d .raw .year) (d .raw .word) ⌝ }
 {
-    rows::seen(d.year(), d.month(), d.day(), d.hour())
+    answers::seen(d.year(), d.month(), d.day(), d.hour())
 }
 
 // A date of the kind with the fields of a row, its hour included.

@@ -7,11 +7,12 @@ ghost use Rattle.replay.specs.Judged.{fieldsJudged};
 ghost use Rattle.replay.specs.Views.{told};
 use crate::Verdict;
 use crate::Way;
+use crate::answers;
+use crate::answers::Said;
 use crate::dates;
 use crate::judge;
 use crate::line;
 use crate::rows;
-use crate::rows::Said;
 use crate::unasked;
 use crate::unread;
 use date::Date;
@@ -27,7 +28,7 @@ fn raw(f: Said) -> Said
     let p = RawDate::from_ymdh_opt(f.year, f.month, f.day, f.hour);
     match p {
         raw_date::Made::Date(d) => dates::raw(d),
-        raw_date::Made::NotOfKind => rows::refused(4),
+        raw_date::Made::NotOfKind => answers::refused(4),
     }
 }
 
@@ -40,7 +41,7 @@ fn date(f: Said) -> Said
     let p = Date::from_ymd_opt(f.year, f.month, f.day);
     match p {
         date::Made::Date(d) => dates::date(d),
-        date::Made::NotOfKind => rows::refused(4),
+        date::Made::NotOfKind => answers::refused(4),
     }
 }
 
@@ -50,7 +51,7 @@ fn hour(f: Said) -> Said
     let p = DateHour::from_ymdh_opt(f.year, f.month, f.day, f.hour);
     match p {
         date_hour::Made::Date(d) => dates::hour(d),
-        date_hour::Made::NotOfKind => rows::refused(4),
+        date_hour::Made::NotOfKind => answers::refused(4),
     }
 }
 
@@ -63,7 +64,7 @@ fn uniform(f: Said) -> Said
     let p = UniformDate::from_ymd_opt(f.year, f.month, f.day);
     match p {
         uniform_date::Made::Date(d) => dates::uniform(d),
-        uniform_date::Made::NotOfKind => rows::refused(4),
+        uniform_date::Made::NotOfKind => answers::refused(4),
     }
 }
 
@@ -76,7 +77,7 @@ fn eu5(f: Said) -> Said
     let p = Eu5Date::from_ymd_opt(f.year, f.month, f.day);
     match p {
         eu5_date::Made::Date(d) => dates::eu5(d),
-        eu5_date::Made::NotOfKind => rows::refused(4),
+        eu5_date::Made::NotOfKind => answers::refused(4),
     }
 }
 
@@ -86,7 +87,7 @@ fn vic3(f: Said) -> Said
     let p = Vic3Date::from_ymdh_opt(f.year, f.month, f.day, f.hour);
     match p {
         vic3_date::Made::Date(d) => dates::vic3(d),
-        vic3_date::Made::NotOfKind => rows::refused(4),
+        vic3_date::Made::NotOfKind => answers::refused(4),
     }
 }
 
@@ -108,11 +109,12 @@ fn asked(kind: u8, f: Said) -> Said
 pub(crate) fn judged(row: &[u8]) -> Verdict
     ensures { λ r. ⌜ r ≡ fieldsJudged (now (row .entry)) ⌝ }
 {
-    let f = rows::date(row, rows::after(row, 1, b' '));
-    let said = rows::answer(row, rows::after(row, f.next, b' '));
+    let f = answers::date(row, rows::after(row, 1, b' '));
+    let said = answers::answer(row, rows::after(row, f.next, b' '));
     judge(row, said, asked(rows::byte(row, 0), f))
 }
 
+// It prints, which no contract can say.
 pub fn report(s: &[u8]) {
     line(Way::Fields, s, b'R', b'f');
     line(Way::Fields, s, b'D', b'f');

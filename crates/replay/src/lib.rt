@@ -7,11 +7,12 @@ ghost use Rattle.rules.specs.Refusals.{Gives, Refused};
 ghost use Rattle.replay.specs.Verdicts.{unaskedTold, unaskedNumber, judgeOf, judgeNumberOf, hasMark, pickedOf, countedOf};
 ghost use Rattle.replay.specs.Judged.{defined, judgedOf, withRowOf, tallyOf};
 ghost use Rattle.replay.specs.Views.{nowhere, wholeRead, wholeAsked, told, toldRead};
-use crate::rows::Said;
+use crate::answers::Said;
 use crate::rows::Whole;
 use libc::STDOUT_FILENO;
 
 pub mod additions;
+mod answers;
 pub mod binaries;
 mod dates;
 pub mod differences;
@@ -55,7 +56,7 @@ const UNASKED: u8 = 255;
 fn unasked() -> Said
     ensures { λ r. ⌜ told r ≡ unaskedTold ⌝ }
 {
-    rows::refused(UNASKED)
+    answers::refused(UNASKED)
 }
 
 fn unasked_number() -> Whole
@@ -81,7 +82,7 @@ fn judge(row: &[u8], said: Said, got: Said) -> Verdict
         return Verdict::Unread;
     }
     if rows::ends(row, said.next) {
-        if rows::same(said, got) {
+        if answers::same(said, got) {
             return Verdict::Right;
         }
         return Verdict::Wrong;
@@ -97,7 +98,7 @@ fn judge_number(row: &[u8], said: Whole, got: Whole) -> Verdict
         return Verdict::Unread;
     }
     if rows::ends(row, said.next) {
-        if rows::same_number(said.value, got.value) {
+        if answers::same_number(said.value, got.value) {
             return Verdict::Right;
         }
         return Verdict::Wrong;
@@ -208,6 +209,7 @@ fn print(text: &[u8]) {
     io::write_all(STDOUT_FILENO, text);
 }
 
+// `print`, `line`, `unread` and the seven `report` functions write, which no contract can say.
 // A line for a kind and a way: how many rows were read, and how many of them say another thing.
 fn line(way: Way, s: &[u8], kind: u8, mark: u8) {
     let t = tally(way, s, kind, mark);
@@ -227,7 +229,7 @@ fn unread(way: Way, s: &[u8]) {
     print(b"\n");
 }
 
-// Room for the longest of the files.
+// Room for the longest of the files. Its contract says nothing: an `ensures` on an array of this length runs the checker out of stack.
 pub fn room() -> [u8; 131072] {
     [0u8; 131072]
 }

@@ -8,11 +8,12 @@ ghost use Rattle.replay.specs.Judged.{numbersJudged};
 ghost use Rattle.replay.specs.Views.{told};
 use crate::Verdict;
 use crate::Way;
+use crate::answers;
+use crate::answers::Said;
 use crate::dates;
 use crate::judge;
 use crate::line;
 use crate::rows;
-use crate::rows::Said;
 use crate::unasked;
 use crate::unread;
 use date::Date;
@@ -27,7 +28,7 @@ fn raw(n: i32) -> Said
     let p = RawDate::from_binary(n);
     match p {
         raw_date::Decoded::Date(d) => dates::raw(d),
-        raw_date::Decoded::NotNumber => rows::refused(3),
+        raw_date::Decoded::NotNumber => answers::refused(3),
     }
 }
 
@@ -37,7 +38,7 @@ fn date(n: i32) -> Said
     let p = Date::from_binary(n);
     match p {
         date::Decoded::Date(d) => dates::date(d),
-        date::Decoded::NotNumber => rows::refused(3),
+        date::Decoded::NotNumber => answers::refused(3),
     }
 }
 
@@ -47,7 +48,7 @@ fn hour(n: i32) -> Said
     let p = DateHour::from_binary(n);
     match p {
         date_hour::Decoded::Date(d) => dates::hour(d),
-        date_hour::Decoded::NotNumber => rows::refused(3),
+        date_hour::Decoded::NotNumber => answers::refused(3),
     }
 }
 
@@ -57,7 +58,7 @@ fn eu5(n: i32) -> Said
     let p = Eu5Date::from_binary(n);
     match p {
         eu5_date::Decoded::Date(d) => dates::eu5(d),
-        eu5_date::Decoded::NotNumber => rows::refused(3),
+        eu5_date::Decoded::NotNumber => answers::refused(3),
     }
 }
 
@@ -67,7 +68,7 @@ fn vic3(n: i32) -> Said
     let p = Vic3Date::from_binary(n);
     match p {
         vic3_date::Decoded::Date(d) => dates::vic3(d),
-        vic3_date::Decoded::NotNumber => rows::refused(3),
+        vic3_date::Decoded::NotNumber => answers::refused(3),
     }
 }
 
@@ -77,7 +78,7 @@ fn date_guess(n: i32) -> Said
     let p = Date::from_binary_heuristic(n);
     match p {
         date::Guessed::Date(d) => dates::date(d),
-        date::Guessed::NotNumber => rows::refused(3),
+        date::Guessed::NotNumber => answers::refused(3),
     }
 }
 
@@ -87,7 +88,7 @@ fn hour_guess(n: i32) -> Said
     let p = DateHour::from_binary_heuristic(n);
     match p {
         date_hour::Guessed::Date(d) => dates::hour(d),
-        date_hour::Guessed::NotNumber => rows::refused(3),
+        date_hour::Guessed::NotNumber => answers::refused(3),
     }
 }
 
@@ -97,7 +98,7 @@ fn eu5_guess(n: i32) -> Said
     let p = Eu5Date::from_binary_heuristic(n);
     match p {
         eu5_date::Guessed::Date(d) => dates::eu5(d),
-        eu5_date::Guessed::NotNumber => rows::refused(3),
+        eu5_date::Guessed::NotNumber => answers::refused(3),
     }
 }
 
@@ -107,7 +108,7 @@ fn vic3_guess(n: i32) -> Said
     let p = Vic3Date::from_binary_heuristic(n);
     match p {
         vic3_date::Guessed::Date(d) => dates::vic3(d),
-        vic3_date::Guessed::NotNumber => rows::refused(3),
+        vic3_date::Guessed::NotNumber => answers::refused(3),
     }
 }
 
@@ -153,10 +154,11 @@ pub(crate) fn judged(row: &[u8]) -> Verdict
 {
     let way = rows::byte(row, rows::after(row, 1, b' '));
     let n = rows::whole32(row, rows::after(row, 3, b' '));
-    let said = rows::answer(row, rows::after(row, n.next, b' '));
+    let said = answers::answer(row, rows::after(row, n.next, b' '));
     judge(row, said, asked(rows::byte(row, 0), way, n.value))
 }
 
+// It prints, which no contract can say.
 pub fn report(s: &[u8]) {
     line(Way::Numbers, s, b'R', b'b');
     line(Way::Numbers, s, b'D', b'b');

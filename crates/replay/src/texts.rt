@@ -6,12 +6,13 @@ ghost use Rattle.replay.specs.Asked.{oneOf, allKinds, textAsked};
 ghost use Rattle.replay.specs.Views.{told};
 use crate::Verdict;
 use crate::Way;
+use crate::answers;
+use crate::answers::Said;
 use crate::dates;
 use crate::judge;
 use crate::line;
 use crate::quoted;
 use crate::rows;
-use crate::rows::Said;
 use crate::unasked;
 use crate::unread;
 use date::Date;
@@ -27,8 +28,8 @@ fn raw(text: &[u8]) -> Said
     let p = RawDate::parse(text);
     match p {
         raw_date::Parsed::Date(d) => dates::raw(d),
-        raw_date::Parsed::TooLong => rows::refused(1),
-        raw_date::Parsed::NotText => rows::refused(2),
+        raw_date::Parsed::TooLong => answers::refused(1),
+        raw_date::Parsed::NotText => answers::refused(2),
     }
 }
 
@@ -38,8 +39,8 @@ fn date(text: &[u8]) -> Said
     let p = Date::parse(text);
     match p {
         date::Parsed::Date(d) => dates::date(d),
-        date::Parsed::TooLong => rows::refused(1),
-        date::Parsed::NotText => rows::refused(2),
+        date::Parsed::TooLong => answers::refused(1),
+        date::Parsed::NotText => answers::refused(2),
     }
 }
 
@@ -49,8 +50,8 @@ fn hour(text: &[u8]) -> Said
     let p = DateHour::parse(text);
     match p {
         date_hour::Parsed::Date(d) => dates::hour(d),
-        date_hour::Parsed::TooLong => rows::refused(1),
-        date_hour::Parsed::NotText => rows::refused(2),
+        date_hour::Parsed::TooLong => answers::refused(1),
+        date_hour::Parsed::NotText => answers::refused(2),
     }
 }
 
@@ -60,8 +61,8 @@ fn uniform(text: &[u8]) -> Said
     let p = UniformDate::parse(text);
     match p {
         uniform_date::Parsed::Date(d) => dates::uniform(d),
-        uniform_date::Parsed::TooLong => rows::refused(1),
-        uniform_date::Parsed::NotText => rows::refused(2),
+        uniform_date::Parsed::TooLong => answers::refused(1),
+        uniform_date::Parsed::NotText => answers::refused(2),
     }
 }
 
@@ -71,8 +72,8 @@ fn eu5(text: &[u8]) -> Said
     let p = Eu5Date::parse(text);
     match p {
         eu5_date::Parsed::Date(d) => dates::eu5(d),
-        eu5_date::Parsed::TooLong => rows::refused(1),
-        eu5_date::Parsed::NotText => rows::refused(2),
+        eu5_date::Parsed::TooLong => answers::refused(1),
+        eu5_date::Parsed::NotText => answers::refused(2),
     }
 }
 
@@ -82,8 +83,8 @@ fn vic3(text: &[u8]) -> Said
     let p = Vic3Date::parse(text);
     match p {
         vic3_date::Parsed::Date(d) => dates::vic3(d),
-        vic3_date::Parsed::TooLong => rows::refused(1),
-        vic3_date::Parsed::NotText => rows::refused(2),
+        vic3_date::Parsed::TooLong => answers::refused(1),
+        vic3_date::Parsed::NotText => answers::refused(2),
     }
 }
 
@@ -119,10 +120,11 @@ pub(crate) fn judged(row: &[u8]) -> Verdict {
     let q = quoted::text(row, rows::after(row, 1, b' '), &mut text);
     let len = q.len;
     let next = q.next;
-    let said = rows::answer(row, rows::after(row, next, b' '));
+    let said = answers::answer(row, rows::after(row, next, b' '));
     judge(row, said, asked_part(rows::byte(row, 0), &text, len))
 }
 
+// It prints, which no contract can say.
 pub fn report(s: &[u8]) {
     line(Way::Texts, s, b'R', b't');
     line(Way::Texts, s, b'D', b't');

@@ -1,8 +1,8 @@
--- `replay::rows::bytes_fit` meets its contract: by its three tests. Assumes nothing.
+-- `replay::answers::bytes_fit` meets its contract: by its three tests. Assumes nothing.
 use borrow.Author.Tests.{le-leb, lt-leb, leb-true}
 use Rattle.replay.proofs.Laws.{never}
-use Rattle.replay.proofs.rows.bytes_fit.Statement.{statement}
-use Rattle.replay.proofs.rows.bytes_fit.Tie as tie
+use Rattle.replay.proofs.answers.bytes_fit.Statement.{statement}
+use Rattle.replay.proofs.answers.bytes_fit.Tie as tie
 
 returns : tie.Need-returns
 returns c =

@@ -1,8 +1,8 @@
--- `replay::rows::year_fits` meets its contract: by its two tests. Assumes nothing.
+-- `replay::answers::year_fits` meets its contract: by its two tests. Assumes nothing.
 use borrow.Author.Tests.{le-leb, lt-leb, leb-true}
 use Rattle.replay.proofs.Laws.{never}
-use Rattle.replay.proofs.rows.year_fits.Statement.{statement}
-use Rattle.replay.proofs.rows.year_fits.Tie as tie
+use Rattle.replay.proofs.answers.year_fits.Statement.{statement}
+use Rattle.replay.proofs.answers.year_fits.Tie as tie
 
 returns : tie.Need-returns
 returns c = (rw (le-leb _ _ (c .if1 .taken)), λ e. (c .if1 .taken, leb-true _ _ e))

@@ -1,9 +1,9 @@
--- `replay::rows::no_answer` meets its contract: nothing stands at NOWHERE. Assumes nothing.
+-- `replay::answers::no_answer` meets its contract: nothing stands at NOWHERE. Assumes nothing.
 use native.Mathlib.Omega.{arith}
 use Rattle.rules.proofs.Rests.{past}
 use Rattle.replay.specs.Views.{nowhere}
-use Rattle.replay.proofs.rows.no_answer.Statement.{statement}
-use Rattle.replay.proofs.rows.no_answer.Tie as tie
+use Rattle.replay.proofs.answers.no_answer.Statement.{statement}
+use Rattle.replay.proofs.answers.no_answer.Tie as tie
 
 returns : tie.Need-returns
 returns c = rw (past (c .args .s .now) nowhere (omega arith))

@@ -1,10 +1,10 @@
--- `replay::rows::same` meets its contract: field by field. Assumes nothing.
+-- `replay::answers::same` meets its contract: field by field. Assumes nothing.
 use borrow.Author.Tests.{eq-eqb, ne-eqb}
 use mir.Syntax.{w16}
 use Rattle.sign.proofs.Bits.{held}
 use borrow.Author.Needs.{needs}
-use Rattle.replay.proofs.rows.same.Statement.{statement}
-use Rattle.replay.proofs.rows.same.Tie as tie
+use Rattle.replay.proofs.answers.same.Statement.{statement}
+use Rattle.replay.proofs.answers.same.Tie as tie
 
 returns : tie.Need-returns
 returns c =

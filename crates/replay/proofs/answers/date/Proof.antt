@@ -1,4 +1,4 @@
--- `replay::rows::date` meets its contract: number by number, and whether each fits. Assumes nothing.
+-- `replay::answers::date` meets its contract: number by number, and whether each fits. Assumes nothing.
 use native.Mathlib.Omega.{arith}
 use mathlib.Core.Path.{_∙_}
 use mathlib.Core.Logic.{⊎-elim}
@@ -7,8 +7,8 @@ use Rattle.sign.proofs.Bits.{held}
 use Rattle.replay.specs.Rows.{dateOf}
 use Rattle.replay.proofs.Laws.{year-is}
 use borrow.Author.Needs.{needs}
-use Rattle.replay.proofs.rows.date.Statement.{statement}
-use Rattle.replay.proofs.rows.date.Tie as tie
+use Rattle.replay.proofs.answers.date.Statement.{statement}
+use Rattle.replay.proofs.answers.date.Tie as tie
 
 int16-requires : tie.Need-int16-requires
 int16-requires c κs =

@@ -1,4 +1,4 @@
--- `replay::rows::after_refused` meets its contract. The invariant: what follows the rest of the word from here is what is to be
+-- `replay::answers::after_refused` meets its contract. The invariant: what follows the rest of the word from here is what is to be
 -- answered. The measure is how many bytes of the word are left. Assumes nothing.
 use borrow.Author.Needs.{needs}
 use native.Mathlib.Omega.{arith}
@@ -10,8 +10,8 @@ use Rattle.rules.specs.Words.{bytes}
 use Rattle.rules.proofs.Rests.{past}
 use Rattle.replay.specs.Rows.{afterWord}
 use Rattle.replay.proofs.Laws.{word-goes-on}
-use Rattle.replay.proofs.rows.after_refused.Statement.{statement}
-use Rattle.replay.proofs.rows.after_refused.Tie as tie
+use Rattle.replay.proofs.answers.after_refused.Statement.{statement}
+use Rattle.replay.proofs.answers.after_refused.Tie as tie
 
 abbrev Inv-loop : tie.InvT-loop
 Inv-loop s at word i₀ place₀ i place = (afterWord (drop i (bytes "refused ")) (drop place s) ≡ afterWord (bytes "refused ") (drop at s)) × (i ≤ 8)

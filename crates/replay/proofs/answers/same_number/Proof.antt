@@ -1,8 +1,8 @@
--- `replay::rows::same_number` meets its contract: the bits of two numbers are equal where the numbers are. Assumes nothing.
+-- `replay::answers::same_number` meets its contract: the bits of two numbers are equal where the numbers are. Assumes nothing.
 use mir.Syntax.{w32}
 use Rattle.replay.proofs.Laws.{bits-eqZ}
-use Rattle.replay.proofs.rows.same_number.Statement.{statement}
-use Rattle.replay.proofs.rows.same_number.Tie as tie
+use Rattle.replay.proofs.answers.same_number.Statement.{statement}
+use Rattle.replay.proofs.answers.same_number.Tie as tie
 
 returns : tie.Need-returns
 returns c = bits-eqZ w32 (c .args .a) (c .args .b) (c .fits .a) (c .fits .b)

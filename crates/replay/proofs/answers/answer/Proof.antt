@@ -1,9 +1,9 @@
--- `replay::rows::answer` meets its contract: by the first byte. Assumes nothing.
+-- `replay::answers::answer` meets its contract: by the first byte. Assumes nothing.
 use borrow.Author.Tests.{eq-eqb, ne-eqb}
 use Rattle.replay.specs.Rows.{answerOf}
 use borrow.Author.Needs.{needs}
-use Rattle.replay.proofs.rows.answer.Statement.{statement}
-use Rattle.replay.proofs.rows.answer.Tie as tie
+use Rattle.replay.proofs.answers.answer.Statement.{statement}
+use Rattle.replay.proofs.answers.answer.Tie as tie
 
 returns : tie.Need-returns
 unfolding answerOf

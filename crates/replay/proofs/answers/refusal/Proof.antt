@@ -1,10 +1,10 @@
--- `replay::rows::refusal` meets its contract: the number after the word, where it is a byte. Assumes nothing.
+-- `replay::answers::refusal` meets its contract: the number after the word, where it is a byte. Assumes nothing.
 use native.Mathlib.Omega.{arith}
 use borrow.Author.Tests.{le-leb, lt-leb}
 use Rattle.replay.specs.Rows.{refusalOf}
 use borrow.Author.Needs.{needs}
-use Rattle.replay.proofs.rows.refusal.Statement.{statement}
-use Rattle.replay.proofs.rows.refusal.Tie as tie
+use Rattle.replay.proofs.answers.refusal.Statement.{statement}
+use Rattle.replay.proofs.answers.refusal.Tie as tie
 
 returns : tie.Need-returns
 unfolding refusalOf

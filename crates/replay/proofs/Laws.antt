@@ -1,20 +1,19 @@
 -- Laws of the rows: equality of integers as a test, the end of a row, the digits of a number, the rows of a file. Assumes nothing.
 use mathlib.Core.Path.{_≡_, refl, sym, ap, subst, _∙_}
-use mathlib.Core.Bool.{Bool, true, false, cond, _&&_}
-use mathlib.Core.List.{List, [], _∷_}
-use Prim.Native.Nat.{ℕ, zero, suc, _+_, _*_, _-_, _^_, _≤_, _<_}
+use mathlib.Core.Bool.{Bool, true, false, _&&_}
+use mathlib.Core.List.{List}
+use Prim.Native.Nat.{ℕ, suc, _+_, _*_, _-_, _^_, _≤_, _<_}
 use native.Mathlib.Nat.{one-le-pow, le-mul-of-pos-right}
 use native.Mathlib.Omega.{arith}
-use lib.Dec.{T, leb, ltb, eqb, lit<}
+use lib.Dec.{T, leb, eqb, lit<}
 use lib.IntN.{ℤ, pos, negsuc}
-use lib.ListN.{length, getD, drop, take}
-use lib.Signed.{leZ}
+use lib.ListN.{length, getD, drop}
 use mir.Syntax.{Width}
 use mir.Val.{toZ, ofZ, SFits}
 use mir.ValLaws.{toZ-ofZ}
 use borrow.Author.Tests.{le-leb, lt-leb, leb-true, leb-false, eq-eqb, ne-eqb, eqb-true}
 use Rattle.rules.specs.Words.{eqZ}
-use Rattle.rules.specs.Refusals.{Answer, Gives, Refused, _then_, demand, notText}
+use Rattle.rules.specs.Refusals.{Gives, Refused, _then_, demand, notText}
 use Rattle.rules.specs.Text.{Read, digits, afterDigits, atEnd}
 use Rattle.rules.proofs.Rests.{here, past}
 use Rattle.rules.proofs.KindLaws.{left, right}

@@ -1,10 +1,9 @@
 -- What the definitions answer to the question of a row, for each way of asking. Assumes nothing.
 use Prim.Native.Nat.{ℕ}
-use mathlib.Core.Bool.{Bool, true, false, cond}
+use mathlib.Core.Bool.{Bool, true, cond}
 use mathlib.Core.List.{List, [], _∷_}
 use lib.Dec.{eqb}
 use lib.IntN.{ℤ, pos}
-use lib.ListN.{drop}
 use Rattle.rules.specs.Words.{minus, byte}
 use Rattle.rules.specs.Refusals.{Answer, Gives, Refused, RefusedAt, _then_, notOfKind}
 use Rattle.rules.specs.Kinds.{Kind, kR, kD, kH, kU, kE, kV, Fields, made, fromFields, unpacked, handedIn, Stored, store}

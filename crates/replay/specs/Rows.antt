@@ -1,12 +1,11 @@
 -- A stored row, read from its start. Each reader answers what it read and the rest of the row. One that does not find its part leaves
 -- nothing, and in nothing no reader finds a part: so a row that is not one of its file never comes to its line end. Assumes nothing.
-use Prim.Native.Nat.{ℕ, zero, suc, _+_, _*_, _-_}
-use mathlib.Core.Bool.{Bool, true, false, cond, _&&_}
-use mathlib.Core.List.{List, [], _∷_, _++_}
+use Prim.Native.Nat.{ℕ, suc}
+use mathlib.Core.Bool.{Bool, false, cond, _&&_}
+use mathlib.Core.List.{List, [], _∷_}
 use lib.Dec.{leb, eqb}
 use lib.IntN.{ℤ, pos, subℕ}
-use lib.ListN.{length}
-use Rattle.rules.specs.Words.{within, byte, bytes}
+use Rattle.rules.specs.Words.{byte, bytes}
 use Rattle.rules.specs.Refusals.{Answer, Gives, Refused, RefusedAt, _then_, demand, notText}
 use Rattle.rules.specs.Text.{Read, isDigit, atEnd}
 use Rattle.scalar.specs.Number.{partialOf}

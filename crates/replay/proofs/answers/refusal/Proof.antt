@@ -1,5 +1,4 @@
 -- `replay::answers::refusal` meets its contract: the number after the word, where it is a byte. Assumes nothing.
-use native.Mathlib.Omega.{arith}
 use borrow.Author.Tests.{le-leb, lt-leb}
 use Rattle.replay.specs.Rows.{refusalOf}
 use borrow.Author.Needs.{needs}

@@ -1,10 +1,21 @@
 // Rows `K DATE N`: the number of a date.
+ghost use mathlib.Core.Path.{_≡_};
+ghost use mathlib.Core.List.{[], _∷_};
+ghost use Rattle.rules.specs.Kinds.{kD, kH};
+ghost use Rattle.number.specs.Views.{writtenAs};
+ghost use Rattle.replay.specs.Asked.{oneOf, noNumberAsked, orUnasked, binaryAsked};
+ghost use Rattle.replay.specs.Judged.{binariesJudged};
+ghost use Rattle.replay.specs.Views.{told, wholeAsked};
 use crate::Verdict;
 use crate::Way;
+use crate::answers;
+use crate::answers::Said;
 use crate::asked_number;
 use crate::dates;
 use crate::judge_number;
 use crate::line;
+use crate::rows;
+use crate::rows::Whole;
 use crate::unasked_number;
 use crate::unread;
 use date::Date;
@@ -12,17 +23,19 @@ use date_hour::DateHour;
 use expanded::Kind;
 use expanded::Made;
 use number::Written;
-use rows::Said;
-use rows::Whole;
 
-fn number_of(w: Written) -> Whole {
+fn number_of(w: Written) -> Whole
+    ensures { λ r. ⌜ wholeAsked r ≡ orUnasked (writtenAs w) ⌝ }
+{
     match w {
         Written::Number(n) => asked_number(n),
         Written::NotOfKind => unasked_number(),
     }
 }
 
-fn date(f: Said) -> Whole {
+fn date(f: Said) -> Whole
+    ensures { λ r. ⌜ wholeAsked r ≡ binaryAsked kD (told f) ⌝ }
+{
     let Made::Date(raw) = dates::packed(Kind::Date, f) else {
         return unasked_number();
     };
@@ -30,7 +43,9 @@ fn date(f: Said) -> Whole {
     number_of(from.to_binary())
 }
 
-fn hour(f: Said) -> Whole {
+fn hour(f: Said) -> Whole
+    ensures { λ r. ⌜ wholeAsked r ≡ binaryAsked kH (told f) ⌝ }
+{
     let Made::Date(raw) = dates::packed(Kind::Hour, f) else {
         return unasked_number();
     };
@@ -39,7 +54,9 @@ fn hour(f: Said) -> Whole {
 }
 
 // What the kind of a letter answers.
-fn asked(kind: u8, f: Said) -> Whole {
+fn asked(kind: u8, f: Said) -> Whole
+    ensures { λ r. ⌜ wholeAsked r ≡ oneOf (kD ∷ kH ∷ []) (λ k. binaryAsked k (told f)) noNumberAsked kind ⌝ }
+{
     match kind {
         b'D' => date(f),
         b'H' => hour(f),
@@ -47,12 +64,15 @@ fn asked(kind: u8, f: Said) -> Whole {
     }
 }
 
-pub fn judged(row: &[u8]) -> Verdict {
-    let f = rows::date(row, rows::after(row, 1, b' '));
+pub(crate) fn judged(row: &[u8]) -> Verdict
+    ensures { λ r. ⌜ r ≡ binariesJudged (now (row .entry)) ⌝ }
+{
+    let f = answers::date(row, rows::after(row, 1, b' '));
     let said = rows::whole32(row, rows::after(row, f.next, b' '));
     judge_number(row, said, asked(rows::byte(row, 0), f))
 }
 
+// It prints, which no contract can say.
 pub fn report(s: &[u8]) {
     line(Way::Binaries, s, b'D', b'n');
     line(Way::Binaries, s, b'H', b'n');

@@ -1,10 +1,20 @@
 // Rows `K DATE DATE N`: the days from the first date to the second.
+ghost use mathlib.Core.Path.{_≡_};
+ghost use Rattle.rules.specs.Kinds.{kD, kE, kV};
+ghost use Rattle.day_count.specs.Views.{counted};
+ghost use Rattle.replay.specs.Asked.{oneOf, countingKinds, noNumberAsked, orUnasked, differenceAsked};
+ghost use Rattle.replay.specs.Judged.{differencesJudged};
+ghost use Rattle.replay.specs.Views.{told, wholeAsked};
 use crate::Verdict;
 use crate::Way;
+use crate::answers;
+use crate::answers::Said;
 use crate::asked_number;
 use crate::dates;
 use crate::judge_number;
 use crate::line;
+use crate::rows;
+use crate::rows::Whole;
 use crate::unasked_number;
 use crate::unread;
 use date::Date;
@@ -12,18 +22,20 @@ use day_count::Days;
 use eu5_date::Eu5Date;
 use expanded::Kind;
 use expanded::Made;
-use rows::Said;
-use rows::Whole;
 use vic3_date::Vic3Date;
 
-fn number_of(d: Days) -> Whole {
+fn number_of(d: Days) -> Whole
+    ensures { λ r. ⌜ wholeAsked r ≡ orUnasked (counted d) ⌝ }
+{
     match d {
         Days::Days(n) => asked_number(n),
         Days::NotOfKind => unasked_number(),
     }
 }
 
-fn date(f: Said, g: Said) -> Whole {
+fn date(f: Said, g: Said) -> Whole
+    ensures { λ r. ⌜ wholeAsked r ≡ differenceAsked kD (told f) (told g) ⌝ }
+{
     let Made::Date(raw) = dates::packed(Kind::Date, f) else {
         return unasked_number();
     };
@@ -34,7 +46,9 @@ fn date(f: Said, g: Said) -> Whole {
     number_of(from.days_until(Date { raw: other }))
 }
 
-fn eu5(f: Said, g: Said) -> Whole {
+fn eu5(f: Said, g: Said) -> Whole
+    ensures { λ r. ⌜ wholeAsked r ≡ differenceAsked kE (told f) (told g) ⌝ }
+{
     let Made::Date(raw) = dates::packed(Kind::Eu5, f) else {
         return unasked_number();
     };
@@ -45,7 +59,9 @@ fn eu5(f: Said, g: Said) -> Whole {
     number_of(from.days_until(Eu5Date { raw: other }))
 }
 
-fn vic3(f: Said, g: Said) -> Whole {
+fn vic3(f: Said, g: Said) -> Whole
+    ensures { λ r. ⌜ wholeAsked r ≡ differenceAsked kV (told f) (told g) ⌝ }
+{
     let Made::Date(raw) = dates::packed(Kind::Vic3, f) else {
         return unasked_number();
     };
@@ -57,7 +73,9 @@ fn vic3(f: Said, g: Said) -> Whole {
 }
 
 // What the kind of a letter answers.
-fn asked(kind: u8, f: Said, g: Said) -> Whole {
+fn asked(kind: u8, f: Said, g: Said) -> Whole
+    ensures { λ r. ⌜ wholeAsked r ≡ oneOf countingKinds (λ k. differenceAsked k (told f) (told g)) noNumberAsked kind ⌝ }
+{
     match kind {
         b'D' => date(f, g),
         b'E' => eu5(f, g),
@@ -66,13 +84,16 @@ fn asked(kind: u8, f: Said, g: Said) -> Whole {
     }
 }
 
-pub fn judged(row: &[u8]) -> Verdict {
-    let f = rows::date(row, rows::after(row, 1, b' '));
-    let g = rows::date(row, rows::after(row, f.next, b' '));
+pub(crate) fn judged(row: &[u8]) -> Verdict
+    ensures { λ r. ⌜ r ≡ differencesJudged (now (row .entry)) ⌝ }
+{
+    let f = answers::date(row, rows::after(row, 1, b' '));
+    let g = answers::date(row, rows::after(row, f.next, b' '));
     let said = rows::whole32(row, rows::after(row, g.next, b' '));
     judge_number(row, said, asked(rows::byte(row, 0), f, g))
 }
 
+// It prints, which no contract can say.
 pub fn report(s: &[u8]) {
     line(Way::Differences, s, b'D', b'd');
     line(Way::Differences, s, b'E', b'd');

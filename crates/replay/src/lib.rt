@@ -1,21 +1,30 @@
 // The stored answers of the original, asked again: each row is read, the kind's public method is called,
 // and what it answers is held against what the row says.
-ghost use Prim.Native.Nat.{_≤_};
+ghost use mathlib.Core.Path.{_≡_};
+ghost use mathlib.Core.Bool.{true};
+ghost use Prim.Native.Nat.{_+_, _<_, _≤_};
+ghost use Rattle.rules.specs.Refusals.{Gives, Refused};
+ghost use Rattle.replay.specs.Verdicts.{unaskedTold, unaskedNumber, judgeOf, judgeNumberOf, hasMark, pickedOf, countedOf};
+ghost use Rattle.replay.specs.Judged.{defined, judgedOf, withRowOf, tallyOf};
+ghost use Rattle.replay.specs.Views.{nowhere, wholeRead, wholeAsked, told, toldRead};
+use crate::answers::Said;
+use crate::rows::Whole;
 use libc::STDOUT_FILENO;
-use rows::Said;
-use rows::Whole;
 
 pub mod additions;
+mod answers;
 pub mod binaries;
-pub mod dates;
+mod dates;
 pub mod differences;
 pub mod fields;
 pub mod numbers;
 pub mod orders;
+mod quoted;
+mod rows;
 pub mod texts;
 
 // What the rows of a file ask.
-pub enum Way {
+enum Way {
     Texts,
     Numbers,
     Fields,
@@ -26,16 +35,16 @@ pub enum Way {
 }
 
 // What became of a row. An unread one is not a row of its file, or asks what the kind does not have.
-pub enum Verdict {
+enum Verdict {
     Right,
     Wrong,
     Unread,
 }
 
-pub struct Counts {
-    pub rows: u64,
-    pub wrong: u64,
-    pub unread: u64,
+struct Counts {
+    rows: u64,
+    wrong: u64,
+    unread: u64,
 }
 
 // In the place of a kind: every row.
@@ -44,28 +53,36 @@ const EVERY: u8 = 0;
 // In the place of a refusal's number: the method is not there to be asked.
 const UNASKED: u8 = 255;
 
-pub fn unasked() -> Said {
-    rows::refused(UNASKED)
+fn unasked() -> Said
+    ensures { λ r. ⌜ told r ≡ unaskedTold ⌝ }
+{
+    answers::refused(UNASKED)
 }
 
-pub fn unasked_number() -> Whole {
+fn unasked_number() -> Whole
+    ensures { λ r. ⌜ wholeAsked r ≡ Refused unaskedNumber ⌝ }
+{
     Whole {
         value: 0,
         next: rows::NOWHERE,
     }
 }
 
-pub fn asked_number(value: i32) -> Whole {
+fn asked_number(value: i32) -> Whole
+    ensures { λ r. ⌜ wholeAsked r ≡ Gives value ⌝ }
+{
     Whole { value, next: 0 }
 }
 
 // What a row says, against what the kind answers.
-pub fn judge(row: &[u8], said: Said, got: Said) -> Verdict {
+fn judge(row: &[u8], said: Said, got: Said) -> Verdict
+    ensures { λ r. ⌜ r ≡ judgeOf (toldRead (now (row .entry)) said) (told got) ⌝ }
+{
     if got.refusal == UNASKED {
         return Verdict::Unread;
     }
     if rows::ends(row, said.next) {
-        if rows::same(said, got) {
+        if answers::same(said, got) {
             return Verdict::Right;
         }
         return Verdict::Wrong;
@@ -74,12 +91,14 @@ pub fn judge(row: &[u8], said: Said, got: Said) -> Verdict {
 }
 
 // The same for an answer that is a number.
-pub fn judge_number(row: &[u8], said: Whole, got: Whole) -> Verdict {
+fn judge_number(row: &[u8], said: Whole, got: Whole) -> Verdict
+    ensures { λ r. ⌜ r ≡ judgeNumberOf (wholeRead (now (row .entry)) said) (wholeAsked got) ⌝ }
+{
     if got.next == rows::NOWHERE {
         return Verdict::Unread;
     }
     if rows::ends(row, said.next) {
-        if said.value == got.value {
+        if answers::same_number(said.value, got.value) {
             return Verdict::Right;
         }
         return Verdict::Wrong;
@@ -87,7 +106,9 @@ pub fn judge_number(row: &[u8], said: Whole, got: Whole) -> Verdict {
     Verdict::Unread
 }
 
-fn judged(way: Way, row: &[u8]) -> Verdict {
+fn judged(way: Way, row: &[u8]) -> Verdict
+    ensures { λ r. ⌜ (defined way ≡ true → r ≡ judgedOf way (now (row .entry))) ⌝ }
+{
     match way {
         Way::Texts => texts::judged(row),
         Way::Numbers => numbers::judged(row),
@@ -99,48 +120,66 @@ fn judged(way: Way, row: &[u8]) -> Verdict {
     }
 }
 
-// Whether a row is one of those to be counted. Rows of numbers are told apart by their second letter too.
-fn picked(way: Way, row: &[u8], kind: u8, mark: u8) -> bool {
+// Rows of numbers are told apart by their second letter too.
+fn has_mark(way: Way, row: &[u8], mark: u8) -> bool
+    ensures { λ r. ⌜ r ≡ hasMark way (now (row .entry)) mark ⌝ }
+{
+    match way {
+        Way::Texts => true,
+        Way::Numbers => rows::byte(row, 2) == mark,
+        Way::Fields => true,
+        Way::Additions => true,
+        Way::Differences => true,
+        Way::Binaries => true,
+        Way::Orders => true,
+    }
+}
+
+// Whether a row is one of those to be counted.
+fn picked(way: Way, row: &[u8], kind: u8, mark: u8) -> bool
+    ensures { λ r. ⌜ r ≡ pickedOf way (now (row .entry)) kind mark ⌝ }
+{
     if kind == EVERY {
         return true;
     }
     if rows::byte(row, 0) == kind {
-        return match way {
-            Way::Numbers => rows::byte(row, 2) == mark,
-            _ => true,
-        };
+        return has_mark(way, row, mark);
     }
     false
 }
 
-fn one_more(n: u64) -> u64 {
-    std::num::wrapping_add_u64(n, 1)
-}
-
-fn counted(t: Counts, v: Verdict) -> Counts {
+// One row more. No count passes the number of bytes of the file.
+fn counted(t: Counts, v: Verdict) -> Counts
+    requires { ⌜ (t .rows < nowhere) × (t .wrong < nowhere) × (t .unread < nowhere) ⌝ }
+    ensures { λ r. ⌜ r ≡ countedOf t v ⌝ }
+    ensures { λ r. ⌜ (r .rows ≤ t .rows + 1) × (r .wrong ≤ t .wrong + 1) × (r .unread ≤ t .unread + 1) ⌝ }
+{
     let rows = t.rows;
     let wrong = t.wrong;
     let unread = t.unread;
     match v {
         Verdict::Right => Counts {
-            rows: one_more(rows),
+            rows: rows + 1,
             wrong,
             unread,
         },
         Verdict::Wrong => Counts {
-            rows: one_more(rows),
-            wrong: one_more(wrong),
+            rows: rows + 1,
+            wrong: wrong + 1,
             unread,
         },
         Verdict::Unread => Counts {
             rows,
             wrong,
-            unread: one_more(unread),
+            unread: unread + 1,
         },
     }
 }
 
-fn tally(way: Way, s: &[u8], kind: u8, mark: u8) -> Counts {
+// The counts over the rows of a file.
+fn tally(way: Way, s: &[u8], kind: u8, mark: u8) -> Counts
+    ensures { λ r. ⌜ (defined way ≡ true → r ≡ tallyOf way (now (s .entry)) kind mark) ⌝ }
+{
     let mut t = Counts {
         rows: 0,
         wrong: 0,
@@ -155,7 +194,11 @@ fn tally(way: Way, s: &[u8], kind: u8, mark: u8) -> Counts {
     t
 }
 
-fn with_row(way: Way, row: &[u8], kind: u8, mark: u8, t: Counts) -> Counts {
+fn with_row(way: Way, row: &[u8], kind: u8, mark: u8, t: Counts) -> Counts
+    requires { ⌜ (t .rows < nowhere) × (t .wrong < nowhere) × (t .unread < nowhere) ⌝ }
+    ensures { λ r. ⌜ (defined way ≡ true → r ≡ withRowOf way kind mark (now (row .entry)) t) ⌝ }
+    ensures { λ r. ⌜ (r .rows ≤ t .rows + 1) × (r .wrong ≤ t .wrong + 1) × (r .unread ≤ t .unread + 1) ⌝ }
+{
     if picked(way, row, kind, mark) {
         return counted(t, judged(way, row));
     }
@@ -166,8 +209,9 @@ fn print(text: &[u8]) {
     io::write_all(STDOUT_FILENO, text);
 }
 
+// `print`, `line`, `unread` and the seven `report` functions write, which no contract can say.
 // A line for a kind and a way: how many rows were read, and how many of them say another thing.
-pub fn line(way: Way, s: &[u8], kind: u8, mark: u8) {
+fn line(way: Way, s: &[u8], kind: u8, mark: u8) {
     let t = tally(way, s, kind, mark);
     let head = [kind, b' ', mark, b' '];
     print(&head);
@@ -178,14 +222,14 @@ pub fn line(way: Way, s: &[u8], kind: u8, mark: u8) {
 }
 
 // The last line: how many rows of all were not read.
-pub fn unread(way: Way, s: &[u8]) {
+fn unread(way: Way, s: &[u8]) {
     let t = tally(way, s, EVERY, 0);
     print(b"unread ");
     io::print_decimal(STDOUT_FILENO, t.unread);
     print(b"\n");
 }
 
-// Room for the longest of the files.
+// Room for the longest of the files. Its contract says nothing: an `ensures` on an array of this length runs the checker out of stack.
 pub fn room() -> [u8; 131072] {
     [0u8; 131072]
 }

@@ -1,10 +1,20 @@
 // Rows `K DATE DATE N`: the order of two dates, -1, 0 or 1.
+ghost use mathlib.Core.Path.{_≡_};
+ghost use Rattle.rules.specs.Kinds.{kR, kD, kH, kU, kE, kV};
+ghost use Rattle.expanded.specs.Views.{ordered};
+ghost use Rattle.replay.specs.Asked.{oneOf, allKinds, noNumberAsked, ordering, orderAsked};
+ghost use Rattle.replay.specs.Judged.{ordersJudged};
+ghost use Rattle.replay.specs.Views.{told, wholeAsked};
 use crate::Verdict;
 use crate::Way;
+use crate::answers;
+use crate::answers::Said;
 use crate::asked_number;
 use crate::dates;
 use crate::judge_number;
 use crate::line;
+use crate::rows;
+use crate::rows::Whole;
 use crate::unasked_number;
 use crate::unread;
 use date::Date;
@@ -14,12 +24,12 @@ use expanded::Kind;
 use expanded::Made;
 use expanded::Ordered;
 use raw_date::RawDate;
-use rows::Said;
-use rows::Whole;
 use uniform_date::UniformDate;
 use vic3_date::Vic3Date;
 
-fn number_of(o: Ordered) -> Whole {
+fn number_of(o: Ordered) -> Whole
+    ensures { λ r. ⌜ wholeAsked r ≡ ordering (ordered o) ⌝ }
+{
     match o {
         Ordered::Before => asked_number(-1),
         Ordered::Same => asked_number(0),
@@ -28,7 +38,9 @@ fn number_of(o: Ordered) -> Whole {
     }
 }
 
-fn raw(f: Said, g: Said) -> Whole {
+fn raw(f: Said, g: Said) -> Whole
+    ensures { λ r. ⌜ wholeAsked r ≡ orderAsked kR (told f) (told g) ⌝ }
+{
     let Made::Date(raw) = dates::packed(Kind::Raw, f) else {
         return unasked_number();
     };
@@ -39,7 +51,9 @@ fn raw(f: Said, g: Said) -> Whole {
     number_of(from.compare(RawDate { raw: other }))
 }
 
-fn date(f: Said, g: Said) -> Whole {
+fn date(f: Said, g: Said) -> Whole
+    ensures { λ r. ⌜ wholeAsked r ≡ orderAsked kD (told f) (told g) ⌝ }
+{
     let Made::Date(raw) = dates::packed(Kind::Date, f) else {
         return unasked_number();
     };
@@ -50,7 +64,9 @@ fn date(f: Said, g: Said) -> Whole {
     number_of(from.compare(Date { raw: other }))
 }
 
-fn hour(f: Said, g: Said) -> Whole {
+fn hour(f: Said, g: Said) -> Whole
+    ensures { λ r. ⌜ wholeAsked r ≡ orderAsked kH (told f) (told g) ⌝ }
+{
     let Made::Date(raw) = dates::packed(Kind::Hour, f) else {
         return unasked_number();
     };
@@ -61,7 +77,9 @@ fn hour(f: Said, g: Said) -> Whole {
     number_of(from.compare(DateHour { raw: other }))
 }
 
-fn uniform(f: Said, g: Said) -> Whole {
+fn uniform(f: Said, g: Said) -> Whole
+    ensures { λ r. ⌜ wholeAsked r ≡ orderAsked kU (told f) (told g) ⌝ }
+{
     let Made::Date(raw) = dates::packed(Kind::Uniform, f) else {
         return unasked_number();
     };
@@ -72,7 +90,9 @@ fn uniform(f: Said, g: Said) -> Whole {
     number_of(from.compare(UniformDate { raw: other }))
 }
 
-fn eu5(f: Said, g: Said) -> Whole {
+fn eu5(f: Said, g: Said) -> Whole
+    ensures { λ r. ⌜ wholeAsked r ≡ orderAsked kE (told f) (told g) ⌝ }
+{
     let Made::Date(raw) = dates::packed(Kind::Eu5, f) else {
         return unasked_number();
     };
@@ -83,7 +103,9 @@ fn eu5(f: Said, g: Said) -> Whole {
     number_of(from.compare(Eu5Date { raw: other }))
 }
 
-fn vic3(f: Said, g: Said) -> Whole {
+fn vic3(f: Said, g: Said) -> Whole
+    ensures { λ r. ⌜ wholeAsked r ≡ orderAsked kV (told f) (told g) ⌝ }
+{
     let Made::Date(raw) = dates::packed(Kind::Vic3, f) else {
         return unasked_number();
     };
@@ -95,7 +117,9 @@ fn vic3(f: Said, g: Said) -> Whole {
 }
 
 // What the kind of a letter answers.
-fn asked(kind: u8, f: Said, g: Said) -> Whole {
+fn asked(kind: u8, f: Said, g: Said) -> Whole
+    ensures { λ r. ⌜ wholeAsked r ≡ oneOf allKinds (λ k. orderAsked k (told f) (told g)) noNumberAsked kind ⌝ }
+{
     match kind {
         b'R' => raw(f, g),
         b'D' => date(f, g),
@@ -107,13 +131,16 @@ fn asked(kind: u8, f: Said, g: Said) -> Whole {
     }
 }
 
-pub fn judged(row: &[u8]) -> Verdict {
-    let f = rows::date(row, rows::after(row, 1, b' '));
-    let g = rows::date(row, rows::after(row, f.next, b' '));
+pub(crate) fn judged(row: &[u8]) -> Verdict
+    ensures { λ r. ⌜ r ≡ ordersJudged (now (row .entry)) ⌝ }
+{
+    let f = answers::date(row, rows::after(row, 1, b' '));
+    let g = answers::date(row, rows::after(row, f.next, b' '));
     let said = rows::whole32(row, rows::after(row, g.next, b' '));
     judge_number(row, said, asked(rows::byte(row, 0), f, g))
 }
 
+// It prints, which no contract can say.
 pub fn report(s: &[u8]) {
     line(Way::Orders, s, b'R', b'o');
     line(Way::Orders, s, b'D', b'o');

@@ -1,0 +1,3 @@
+pub mod FileLaws
+pub mod Laws
+pub mod QuotedLaws

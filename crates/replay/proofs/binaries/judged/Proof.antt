@@ -1,0 +1,23 @@
+-- `replay::binaries::judged` meets its contract: part by part. Assumes nothing.
+use Rattle.replay.specs.Judged.{binariesJudged}
+use borrow.Author.Needs.{needs}
+use Rattle.replay.proofs.binaries.judged.Statement.{statement}
+use Rattle.replay.proofs.binaries.judged.Tie as tie
+
+returns : tie.Need-returns
+unfolding binariesJudged
+returns c =
+    rw (c .judge-number .ensures, c .before .asked .ensures, c .before .before .byte .ensures, ← (c .before .before .before .before .before .before .after .ensures), ← (c .before .before .before .before .before .date .ensures), ← (c .before .before .before .before .after2 .ensures), ← (c .before .before .before .whole32 .ensures))
+
+pub judged-spec : {M : Type 1} → statement M
+judged-spec =
+    tie.close
+    (tie.spec
+    (λ c κs. search needs)
+    (λ c κs. search needs)
+    (λ c κs. search needs)
+    (λ c κs. search needs)
+    (λ c κs. search needs)
+    (λ c κs. search needs)
+    (λ c κs. search needs)
+    returns)

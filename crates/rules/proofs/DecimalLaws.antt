@@ -63,8 +63,18 @@ digits-most = by-digits (λ n l. (k : ℕ) → n < 10 ^ suc k → length l ≤ s
     more n l h p (suc k) b = let q = p k (omega arith) in rw length-append (omega arith)
 
 -- one at least
-pub digits-least : (n : ℕ) → n < 10 ^ 20 → 1 ≤ length (decimal n)
-digits-least = by-digits (λ n l. 1 ≤ length l) (λ n h. omega arith) (λ n l h p. rw length-append (omega arith))
+places-least : (k n : ℕ) → 1 ≤ length (decimalIn k n)
+unfolding decimalIn
+places-least zero n = omega arith
+places-least (suc k) n = split (ltb n 10)
+  where
+    split : (t : Bool) → 1 ≤ length (cond t (digit n ∷ []) (decimalIn k (n / 10) ++ digit (n % 10) ∷ []))
+    split true = omega arith
+    split false = rw length-append (omega arith)
+
+pub digits-least : (n : ℕ) → 1 ≤ length (decimal n)
+unfolding decimal
+digits-least n = places-least 19 n
 
 -- ---- zero-filled
 
@@ -82,3 +92,8 @@ filled-two n h = split (ltb n 10) refl
         let l = ltb-true n 10 e in let ten : 0 ≡ n / 10 = omega arith in let unit : n ≡ n % 10 = omega arith in
         rw (one-digit n l) (λ i. digit (ten i) ∷ digit (unit i) ∷ [])
     split false e = rw (two-digits n (ltb-false n 10 e) h)
+
+-- to one digit: as it is
+pub filled-one : (n : ℕ) → filled 1 n ≡ decimal n
+unfolding filled
+filled-one n = let l = digits-least n in let none : 1 - length (decimal n) ≡ 0 = omega arith in rw none

@@ -22,7 +22,7 @@ Sized lo hi text = (lo ≤ length text) × (length text ≤ hi)
 -- ---- the parts
 
 decimal-size : (n : ℕ) → n < 10 ^ 20 → (k : ℕ) → n < 10 ^ suc k → Sized 1 (suc k) (decimal n)
-decimal-size n h k b = (digits-least n h, digits-most n h k b)
+decimal-size n h k b = (digits-least n, digits-most n h k b)
 
 -- a year without its sign has 1 to 5 digits, or, zero-filled, the width to 5
 plain-size : (n : ℕ) → n ≤ 32768 → Sized 1 5 (decimal n)

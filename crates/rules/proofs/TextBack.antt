@@ -28,7 +28,7 @@ lead-year : (y : ℤ) (r : List ℕ) → dn y ≤ 32768 → up y ≤ 32767 → n
 unfolding leading
 lead-year (pos n) r a b e =
     let h : n < 10 ^ 20 = omega arith in
-    rw (lead-digits r (decimal-digits n h) (digits-least n h) e, decimal-value n h)
+    rw (lead-digits r (decimal-digits n h) (digits-least n) e, decimal-value n h)
 lead-year (negsuc n) r a b e =
     let h : suc n < 10 ^ 20 = omega arith in
     rw (digits-front r (decimal-digits (suc n) h) e, digits-after r (decimal-digits (suc n) h) e, decimal-value (suc n) h)
@@ -38,7 +38,7 @@ digits-no-plus r none h = absurd (omega arith)
 digits-no-plus r (next {b} d ds) h = no-sign b 43 d (omega arith)
 
 year-no-plus : (y : ℤ) (r : List ℕ) → dn y ≤ 32768 → up y ≤ 32767 → startsWithPlus (plainYear y ++ r) ≡ false
-year-no-plus (pos n) r a b = let h : n < 10 ^ 20 = omega arith in digits-no-plus r (decimal-digits n h) (digits-least n h)
+year-no-plus (pos n) r a b = let h : n < 10 ^ 20 = omega arith in digits-no-plus r (decimal-digits n h) (digits-least n)
 year-no-plus (negsuc n) r a b = refl
 
 -- ---- month, day and hour

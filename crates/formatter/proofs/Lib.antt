@@ -1,0 +1,4 @@
+pub mod Places
+pub mod PieceLaws
+pub mod Texts
+pub mod Determined

@@ -1,0 +1,14 @@
+-- `formatter::years::exchange_year` meets its contract. Assumes nothing.
+use borrow.Author.Needs.{needs}
+use mathlib.Core.Path.{_∙_}
+use mir.Facts.{toZ-ofZ}
+use Rattle.formatter.proofs.PieceLaws.{exchange-filled}
+use Rattle.formatter.proofs.years.exchange_year.Statement.{statement}
+use Rattle.formatter.proofs.years.exchange_year.Tie as tie
+
+returns : tie.Need-returns
+returns c =
+    ((rw (toZ-ofZ (c .before .fits .year)) at (c .filled-year .ensures .0)) ∙ exchange-filled (c .before .args .year), c .filled-year .ensures .1)
+
+pub exchange-year-spec : {M : Type 1} → statement M
+exchange-year-spec = tie.close (tie.spec (λ c κs. search needs) returns)

@@ -1,0 +1,41 @@
+-- The pieces that every text is made of: a year, and marked numbers of one or two digits after it. Assumes nothing.
+use Prim.Native.Nat.{ℕ, zero, suc, _/_, _%_}
+use mathlib.Core.Bool.{Bool, cond}
+use mathlib.Core.List.{List, [], _∷_, _++_}
+use lib.ListN.{length, drop}
+use lib.IntN.{ℤ, pos, negsuc}
+use Rattle.rules.specs.Words.{byte, bytes}
+use Rattle.rules.specs.Spelling.{digit, decimal, filled}
+use Rattle.formatter.specs.declared.years.Year.{Year}
+use Rattle.formatter.specs.declared.pieces.Style.{Style}
+use Rattle.formatter.specs.declared.pieces.Hour.{Hour}
+
+-- a text at the front of a buffer; what is after it stays
+abbrev pub placed : List ℕ → List ℕ → List ℕ
+placed text buffer = text ++ drop (length text) buffer
+
+-- the last k digits of n, with zeros in front
+unfoldable pub digitsIn : ℕ → ℕ → List ℕ
+digitsIn zero n = []
+digitsIn (suc k) n = digitsIn k (n / 10) ++ digit (n % 10) ∷ []
+
+-- a year zero-filled to one width from year 0 on, and to another, after its sign, before
+abbrev pub filledYear : ℕ → ℕ → ℤ → List ℕ
+filledYear above below (pos n) = filled above n
+filledYear above below (negsuc n) = bytes "-" ++ filled below (suc n)
+
+-- the year that is to be written
+abbrev pub yearText : Year → List ℕ
+yearText y = cond (y .negative) (bytes "-" ++ digitsIn (y .digits) (y .size)) (digitsIn (y .digits) (y .size))
+
+-- a mark, and a number in two digits, or in as many as it has
+unfoldable pub marked : Style → ℕ → List ℕ
+marked s n = s .mark ∷ cond (s .wide) (filled 2 n) (decimal n)
+
+-- the hour, if it is shown
+abbrev pub hourText : Hour → List ℕ
+hourText h = cond (h .shown) (marked (h .style) (h .value)) []
+
+-- the whole text
+unfoldable pub textOf : Year → Style → ℕ → ℕ → Hour → List ℕ
+textOf year style month day hour = yearText year ++ marked style month ++ marked style day ++ hourText hour

@@ -1,0 +1,50 @@
+// Numbers as digits, at the front of a lent buffer.
+ghost use mathlib.Core.Path.{_≡_};
+ghost use Prim.Native.Nat.{_^_, _≤_, _<_};
+ghost use lib.ListN.{length};
+ghost use Rattle.rules.specs.Spelling.{decimal, filled};
+ghost use Rattle.formatter.specs.Pieces.{placed, digitsIn};
+
+// Two digits.
+pub(crate) fn put_two(out: &mut [u8], n: u8)
+    requires { ⌜ (n < 100) × (2 ≤ length (now out)) ⌝ }
+    ensures { λ _. ⌜ now (out .exit) ≡ placed (filled 2 n) (now (out .entry)) ⌝ }
+{
+    out[0] = b'0' + n / 10;
+    out[1] = b'0' + n % 10;
+}
+
+// The last w digits of n, with zeros in front, from the last one on.
+pub(crate) fn put_digits(out: &mut [u8], n: u64, w: usize)
+    requires { ⌜ w ≤ length (now out) ⌝ }
+    ensures { λ _. ⌜ now (out .exit) ≡ placed (digitsIn w n) (now (out .entry)) ⌝ }
+{
+    let mut i = w;
+    let mut m = n;
+    while 0 < i {
+        i -= 1;
+        out[i] = b'0' + (m % 10) as u8;
+        m = m / 10;
+    }
+}
+
+// How many digits a number of at most five has.
+pub(crate) fn digits_of(n: u64) -> usize
+    requires { ⌜ n < 100000 ⌝ }
+    ensures { λ r. ⌜ (decimal n ≡ digitsIn r n) × (n < 10 ^ r) ⌝ }
+    ensures { λ r. ⌜ (1 ≤ r) × (r ≤ 5) ⌝ }
+{
+    if n < 10 {
+        return 1;
+    }
+    if n < 100 {
+        return 2;
+    }
+    if n < 1000 {
+        return 3;
+    }
+    if n < 10000 {
+        return 4;
+    }
+    5
+}

@@ -1,0 +1,134 @@
+// The texts of a date, into a buffer that the caller lends: dotted, ISO, exchange, and E's ISO date alone.
+ghost use mathlib.Core.Path.{_≡_};
+ghost use Prim.Native.Nat.{_≤_, _<_};
+ghost use lib.ListN.{length};
+ghost use Rattle.rules.specs.Refusals.{Gives, _then_};
+ghost use Rattle.rules.specs.Kinds.{handedIn};
+ghost use Rattle.rules.specs.Spelling.{hasIsoDate, dotted, iso, exchange, isoDateAlone, putAnswer, putBuffer};
+ghost use Rattle.expanded.specs.Views.{kindOf};
+ghost use Rattle.formatter.specs.Pieces.{textOf};
+ghost use Rattle.formatter.specs.Views.{written, lengthOf};
+use expanded::ExpandedRawDate;
+use expanded::Kind;
+use expanded::Opened;
+use expanded::Packed;
+use pieces::Hour;
+use pieces::Style;
+use years::Year;
+
+mod digits;
+mod kinds;
+mod pieces;
+mod years;
+
+// How many bytes were written; or why none was: the date is not of the kind, or the buffer is shorter than the text.
+pub enum Written {
+    Length(usize),
+    NotOfKind,
+    Short,
+}
+
+// A text at the front of a buffer, or nothing where the buffer is too short.
+fn put_text(out: &mut [u8], year: Year, style: Style, month: u8, day: u8, hour: Hour) -> Written
+    requires { ⌜ (year .digits ≤ 5) × (month < 100) × (day < 100) × (hour .value < 100) ⌝ }
+    ensures { λ r. ⌜ written r ≡ putAnswer (Gives (textOf year style month day hour)) (now (out .entry)) ⌝ }
+    ensures { λ _. ⌜ now (out .exit) ≡ putBuffer (Gives (textOf year style month day hour)) (now (out .entry)) ⌝ }
+    ensures { λ r. ⌜ lengthOf r ≤ length (now (out .entry)) ⌝ }
+{
+    let month_at = years::year_length(year);
+    let day_at = month_at + pieces::marked_length(style, month);
+    let hour_at = day_at + pieces::marked_length(style, day);
+    let end = hour_at + pieces::hour_length(hour);
+    if out.len() < end {
+        return Written::Short;
+    }
+    years::put_year(out, year);
+    pieces::put_marked(&mut out[month_at..], style, month);
+    pieces::put_marked(&mut out[day_at..], style, day);
+    pieces::put_hour(&mut out[hour_at..], hour);
+    Written::Length(end)
+}
+
+// Year, month and day with dots between, and the hour if it is not 0.
+pub fn game_fmt(kind: Kind, date: Packed, out: &mut [u8]) -> Written
+    ensures { λ r. ⌜ written r ≡ putAnswer (handedIn (kindOf kind) (date .year) (date .word) then λ f. Gives (dotted (kindOf kind) f)) (now (out .entry)) ⌝ }
+    ensures { λ _. ⌜ now (out .exit) ≡ putBuffer (handedIn (kindOf kind) (date .year) (date .word) then λ f. Gives (dotted (kindOf kind) f)) (now (out .entry)) ⌝ }
+    ensures { λ r. ⌜ lengthOf r ≤ length (now (out .entry)) ⌝ }
+{
+    let opened = expanded::unpack(kind, date);
+    match opened {
+        Opened::Fields(f) => {
+            let year = years::plain_year(f.year);
+            let hour = kinds::dotted_hour(f.hour);
+            put_text(out, year, kinds::dotted_style(kind), f.month, f.day, hour)
+        }
+        Opened::NotOfKind => Written::NotOfKind,
+    }
+}
+
+// The ISO text, its year in width 4 with the sign counted.
+pub fn iso_8601(kind: Kind, date: Packed, out: &mut [u8]) -> Written
+    ensures { λ r. ⌜ written r ≡ putAnswer (handedIn (kindOf kind) (date .year) (date .word) then λ f. Gives (iso (kindOf kind) f)) (now (out .entry)) ⌝ }
+    ensures { λ _. ⌜ now (out .exit) ≡ putBuffer (handedIn (kindOf kind) (date .year) (date .word) then λ f. Gives (iso (kindOf kind) f)) (now (out .entry)) ⌝ }
+    ensures { λ r. ⌜ lengthOf r ≤ length (now (out .entry)) ⌝ }
+{
+    let opened = expanded::unpack(kind, date);
+    match opened {
+        Opened::Fields(f) => {
+            let year = years::iso_year(f.year);
+            let hour = kinds::iso_hour(kind, f.hour);
+            put_text(out, year, kinds::ISO, f.month, f.day, hour)
+        }
+        Opened::NotOfKind => Written::NotOfKind,
+    }
+}
+
+// The exchange text, its year in at least four digits after a sign too.
+pub fn exchange(kind: Kind, date: Packed, out: &mut [u8]) -> Written
+    ensures { λ r. ⌜ written r ≡ putAnswer (handedIn (kindOf kind) (date .year) (date .word) then λ f. Gives (exchange (kindOf kind) f)) (now (out .entry)) ⌝ }
+    ensures { λ _. ⌜ now (out .exit) ≡ putBuffer (handedIn (kindOf kind) (date .year) (date .word) then λ f. Gives (exchange (kindOf kind) f)) (now (out .entry)) ⌝ }
+    ensures { λ r. ⌜ lengthOf r ≤ length (now (out .entry)) ⌝ }
+{
+    let opened = expanded::unpack(kind, date);
+    match opened {
+        Opened::Fields(f) => {
+            let year = years::exchange_year(f.year);
+            let hour = kinds::iso_hour(kind, f.hour);
+            put_text(out, year, kinds::ISO, f.month, f.day, hour)
+        }
+        Opened::NotOfKind => Written::NotOfKind,
+    }
+}
+
+// E alone has the ISO date alone.
+fn has_iso_date(kind: Kind) -> bool
+    ensures { λ r. ⌜ r ≡ hasIsoDate (kindOf kind) ⌝ }
+{
+    match kind {
+        Kind::Raw => false,
+        Kind::Date => false,
+        Kind::Hour => false,
+        Kind::Uniform => false,
+        Kind::Eu5 => true,
+        Kind::Vic3 => false,
+    }
+}
+
+// The ISO date alone, which E has; the other kinds are refused.
+pub fn date_fmt(kind: Kind, date: Packed, out: &mut [u8]) -> Written
+    ensures { λ r. ⌜ written r ≡ putAnswer (handedIn (kindOf kind) (date .year) (date .word) then λ f. isoDateAlone (kindOf kind) f) (now (out .entry)) ⌝ }
+    ensures { λ _. ⌜ now (out .exit) ≡ putBuffer (handedIn (kindOf kind) (date .year) (date .word) then λ f. isoDateAlone (kindOf kind) f) (now (out .entry)) ⌝ }
+    ensures { λ r. ⌜ lengthOf r ≤ length (now (out .entry)) ⌝ }
+{
+    let opened = expanded::unpack(kind, date);
+    match opened {
+        Opened::Fields(f) => {
+            if has_iso_date(kind) {
+                let year = years::iso_year(f.year);
+                return put_text(out, year, kinds::ISO, f.month, f.day, kinds::no_hour());
+            }
+            Written::NotOfKind
+        }
+        Opened::NotOfKind => Written::NotOfKind,
+    }
+}

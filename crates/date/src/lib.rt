@@ -1,18 +1,23 @@
 // The plain date (D): a day of the calendar, without an hour.
 ghost use mathlib.Core.Path.{_≡_};
+ghost use Prim.Native.Nat.{_≤_};
+ghost use lib.ListN.{length};
 ghost use Rattle.rules.specs.Refusals.{Gives, _then_};
 ghost use Rattle.rules.specs.Kinds.{kD, unpacked, least, greatest, fromFields, handedIn, stored, store};
 ghost use Rattle.rules.specs.Numbers.{readNumber, guessNumber, writeNumber};
 ghost use Rattle.rules.specs.Days.{addDays, difference, order};
 ghost use Rattle.rules.specs.Text.{plusAllowed, shapeAllowed, readText};
+ghost use Rattle.rules.specs.Spelling.{dotted, iso, exchange, putAnswer, putBuffer};
 ghost use Rattle.expanded.specs.Views.{ordered};
 ghost use Rattle.number.specs.Views.{writtenAs};
 ghost use Rattle.day_count.specs.Views.{counted};
+ghost use Rattle.formatter.specs.Views.{spelled, lengthOf};
 ghost use Rattle.date.specs.Views.{bits, made, parsed, decoded, guessed, summed};
 use day_count::Days;
 use expanded::Kind;
 use expanded::Ordered;
 use expanded::Packed;
+use formatter::Spelled;
 use number::Written;
 use scalar::Leading;
 
@@ -241,5 +246,32 @@ impl Date {
         ensures { λ r. ⌜ ordered r ≡ (handedIn kD (self .raw .year) (self .raw .word) then λ f. handedIn kD (other .raw .year) (other .raw .word) then λ g. Gives (order f g)) ⌝ }
     {
         expanded::compare(Kind::Date, self.raw, other.raw)
+    }
+
+    // The dotted text at the front of a buffer.
+    pub fn game_fmt(self, out: &mut [u8]) -> Spelled
+        ensures { λ r. ⌜ spelled r ≡ putAnswer (handedIn kD (self .raw .year) (self .raw .word) then λ f. Gives (dotted kD f)) (now (out .entry)) ⌝ }
+        ensures { λ _. ⌜ now (out .exit) ≡ putBuffer (handedIn kD (self .raw .year) (self .raw .word) then λ f. Gives (dotted kD f)) (now (out .entry)) ⌝ }
+        ensures { λ r. ⌜ lengthOf r ≤ length (now (out .entry)) ⌝ }
+    {
+        formatter::game_fmt(Kind::Date, self.raw, out)
+    }
+
+    // The ISO text.
+    pub fn iso_8601(self, out: &mut [u8]) -> Spelled
+        ensures { λ r. ⌜ spelled r ≡ putAnswer (handedIn kD (self .raw .year) (self .raw .word) then λ f. Gives (iso kD f)) (now (out .entry)) ⌝ }
+        ensures { λ _. ⌜ now (out .exit) ≡ putBuffer (handedIn kD (self .raw .year) (self .raw .word) then λ f. Gives (iso kD f)) (now (out .entry)) ⌝ }
+        ensures { λ r. ⌜ lengthOf r ≤ length (now (out .entry)) ⌝ }
+    {
+        formatter::iso_8601(Kind::Date, self.raw, out)
+    }
+
+    // The exchange text.
+    pub fn exchange(self, out: &mut [u8]) -> Spelled
+        ensures { λ r. ⌜ spelled r ≡ putAnswer (handedIn kD (self .raw .year) (self .raw .word) then λ f. Gives (exchange kD f)) (now (out .entry)) ⌝ }
+        ensures { λ _. ⌜ now (out .exit) ≡ putBuffer (handedIn kD (self .raw .year) (self .raw .word) then λ f. Gives (exchange kD f)) (now (out .entry)) ⌝ }
+        ensures { λ r. ⌜ lengthOf r ≤ length (now (out .entry)) ⌝ }
+    {
+        formatter::exchange(Kind::Date, self.raw, out)
     }
 }

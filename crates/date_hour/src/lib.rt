@@ -1,16 +1,21 @@
 // The hourly date (H): a day of the calendar, with an hour of 1 to 24.
 ghost use mathlib.Core.Path.{_≡_};
+ghost use Prim.Native.Nat.{_≤_};
+ghost use lib.ListN.{length};
 ghost use Rattle.rules.specs.Refusals.{Gives, _then_};
 ghost use Rattle.rules.specs.Kinds.{kH, unpacked, least, greatest, fromFields, handedIn, stored, store};
 ghost use Rattle.rules.specs.Numbers.{readNumber, guessNumber, writeNumber};
 ghost use Rattle.rules.specs.Days.{order};
 ghost use Rattle.rules.specs.Text.{readText};
+ghost use Rattle.rules.specs.Spelling.{dotted, iso, exchange, putAnswer, putBuffer};
 ghost use Rattle.expanded.specs.Views.{ordered};
 ghost use Rattle.number.specs.Views.{writtenAs};
+ghost use Rattle.formatter.specs.Views.{spelled, lengthOf};
 ghost use Rattle.date_hour.specs.Views.{bits, made, parsed, decoded, guessed};
 use expanded::Kind;
 use expanded::Ordered;
 use expanded::Packed;
+use formatter::Spelled;
 use number::Written;
 use scalar::Leading;
 
@@ -153,5 +158,32 @@ impl DateHour {
         ensures { λ r. ⌜ ordered r ≡ (handedIn kH (self .raw .year) (self .raw .word) then λ f. handedIn kH (other .raw .year) (other .raw .word) then λ g. Gives (order f g)) ⌝ }
     {
         expanded::compare(Kind::Hour, self.raw, other.raw)
+    }
+
+    // The dotted text at the front of a buffer.
+    pub fn game_fmt(self, out: &mut [u8]) -> Spelled
+        ensures { λ r. ⌜ spelled r ≡ putAnswer (handedIn kH (self .raw .year) (self .raw .word) then λ f. Gives (dotted kH f)) (now (out .entry)) ⌝ }
+        ensures { λ _. ⌜ now (out .exit) ≡ putBuffer (handedIn kH (self .raw .year) (self .raw .word) then λ f. Gives (dotted kH f)) (now (out .entry)) ⌝ }
+        ensures { λ r. ⌜ lengthOf r ≤ length (now (out .entry)) ⌝ }
+    {
+        formatter::game_fmt(Kind::Hour, self.raw, out)
+    }
+
+    // The ISO text.
+    pub fn iso_8601(self, out: &mut [u8]) -> Spelled
+        ensures { λ r. ⌜ spelled r ≡ putAnswer (handedIn kH (self .raw .year) (self .raw .word) then λ f. Gives (iso kH f)) (now (out .entry)) ⌝ }
+        ensures { λ _. ⌜ now (out .exit) ≡ putBuffer (handedIn kH (self .raw .year) (self .raw .word) then λ f. Gives (iso kH f)) (now (out .entry)) ⌝ }
+        ensures { λ r. ⌜ lengthOf r ≤ length (now (out .entry)) ⌝ }
+    {
+        formatter::iso_8601(Kind::Hour, self.raw, out)
+    }
+
+    // The exchange text.
+    pub fn exchange(self, out: &mut [u8]) -> Spelled
+        ensures { λ r. ⌜ spelled r ≡ putAnswer (handedIn kH (self .raw .year) (self .raw .word) then λ f. Gives (exchange kH f)) (now (out .entry)) ⌝ }
+        ensures { λ _. ⌜ now (out .exit) ≡ putBuffer (handedIn kH (self .raw .year) (self .raw .word) then λ f. Gives (exchange kH f)) (now (out .entry)) ⌝ }
+        ensures { λ r. ⌜ lengthOf r ≤ length (now (out .entry)) ⌝ }
+    {
+        formatter::exchange(Kind::Hour, self.raw, out)
     }
 }

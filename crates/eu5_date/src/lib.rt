@@ -1,18 +1,23 @@
 // EU5's date (E): a day of the calendar, with an hour component of 0 to 22.
 ghost use mathlib.Core.Path.{_≡_};
+ghost use Prim.Native.Nat.{_≤_};
+ghost use lib.ListN.{length};
 ghost use Rattle.rules.specs.Refusals.{Gives, _then_};
 ghost use Rattle.rules.specs.Kinds.{kE, inGameHour, unpacked, least, greatest, fromFields, handedIn, stored, store};
 ghost use Rattle.rules.specs.Numbers.{readNumber, guessNumber};
 ghost use Rattle.rules.specs.Days.{addDays, difference, startOfDay, order};
 ghost use Rattle.rules.specs.Text.{readText};
+ghost use Rattle.rules.specs.Spelling.{dotted, iso, exchange, isoDateAlone, putAnswer, putBuffer};
 ghost use Rattle.expanded.specs.Views.{ordered};
 ghost use Rattle.day_count.specs.Views.{counted};
+ghost use Rattle.formatter.specs.Views.{spelled, lengthOf};
 ghost use Rattle.eu5_date.specs.Views.{bits, made, parsed, decoded, guessed, summed, started, inGame};
 use day_count::Days;
 use expanded::Kind;
 use expanded::Opened;
 use expanded::Ordered;
 use expanded::Packed;
+use formatter::Spelled;
 use scalar::Leading;
 
 pub struct Eu5Date {
@@ -213,5 +218,41 @@ impl Eu5Date {
         ensures { λ r. ⌜ ordered r ≡ (handedIn kE (self .raw .year) (self .raw .word) then λ f. handedIn kE (other .raw .year) (other .raw .word) then λ g. Gives (order f g)) ⌝ }
     {
         expanded::compare(Kind::Eu5, self.raw, other.raw)
+    }
+
+    // The dotted text at the front of a buffer.
+    pub fn game_fmt(self, out: &mut [u8]) -> Spelled
+        ensures { λ r. ⌜ spelled r ≡ putAnswer (handedIn kE (self .raw .year) (self .raw .word) then λ f. Gives (dotted kE f)) (now (out .entry)) ⌝ }
+        ensures { λ _. ⌜ now (out .exit) ≡ putBuffer (handedIn kE (self .raw .year) (self .raw .word) then λ f. Gives (dotted kE f)) (now (out .entry)) ⌝ }
+        ensures { λ r. ⌜ lengthOf r ≤ length (now (out .entry)) ⌝ }
+    {
+        formatter::game_fmt(Kind::Eu5, self.raw, out)
+    }
+
+    // The ISO text.
+    pub fn iso_8601(self, out: &mut [u8]) -> Spelled
+        ensures { λ r. ⌜ spelled r ≡ putAnswer (handedIn kE (self .raw .year) (self .raw .word) then λ f. Gives (iso kE f)) (now (out .entry)) ⌝ }
+        ensures { λ _. ⌜ now (out .exit) ≡ putBuffer (handedIn kE (self .raw .year) (self .raw .word) then λ f. Gives (iso kE f)) (now (out .entry)) ⌝ }
+        ensures { λ r. ⌜ lengthOf r ≤ length (now (out .entry)) ⌝ }
+    {
+        formatter::iso_8601(Kind::Eu5, self.raw, out)
+    }
+
+    // The exchange text.
+    pub fn exchange(self, out: &mut [u8]) -> Spelled
+        ensures { λ r. ⌜ spelled r ≡ putAnswer (handedIn kE (self .raw .year) (self .raw .word) then λ f. Gives (exchange kE f)) (now (out .entry)) ⌝ }
+        ensures { λ _. ⌜ now (out .exit) ≡ putBuffer (handedIn kE (self .raw .year) (self .raw .word) then λ f. Gives (exchange kE f)) (now (out .entry)) ⌝ }
+        ensures { λ r. ⌜ lengthOf r ≤ length (now (out .entry)) ⌝ }
+    {
+        formatter::exchange(Kind::Eu5, self.raw, out)
+    }
+
+    // The ISO date alone.
+    pub fn date_fmt(self, out: &mut [u8]) -> Spelled
+        ensures { λ r. ⌜ spelled r ≡ putAnswer (handedIn kE (self .raw .year) (self .raw .word) then λ f. isoDateAlone kE f) (now (out .entry)) ⌝ }
+        ensures { λ _. ⌜ now (out .exit) ≡ putBuffer (handedIn kE (self .raw .year) (self .raw .word) then λ f. isoDateAlone kE f) (now (out .entry)) ⌝ }
+        ensures { λ r. ⌜ lengthOf r ≤ length (now (out .entry)) ⌝ }
+    {
+        formatter::date_fmt(Kind::Eu5, self.raw, out)
     }
 }

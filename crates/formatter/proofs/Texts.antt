@@ -6,16 +6,16 @@ use lib.ListN.{length}
 use Rattle.rules.specs.Refusals.{Answer, Gives, Refused, _then_, notOfKind}
 use Rattle.rules.specs.Kinds.{Fields}
 use Rattle.rules.specs.Spelling.{putAnswer, putBuffer}
-use Rattle.formatter.specs.declared.Written.{Written}
-use Rattle.formatter.specs.declared.Written.the-variants as W
-use Rattle.formatter.specs.Views.{written, lengthOf}
+use Rattle.formatter.specs.declared.Spelled.{Spelled}
+use Rattle.formatter.specs.declared.Spelled.the-variants as W
+use Rattle.formatter.specs.Views.{spelled, lengthOf}
 
 -- the three clauses of a writer, for a text or a refusal, a buffer that held l₀ and one that holds l
-abbrev pub Done : Answer (List ℕ) → List ℕ → Written → List ℕ → Type 0
-Done text l₀ r l = (written r ≡ putAnswer text l₀) × ((l ≡ putBuffer text l₀) × (lengthOf r ≤ length l₀))
+abbrev pub Done : Answer (List ℕ) → List ℕ → Spelled → List ℕ → Type 0
+Done text l₀ r l = (spelled r ≡ putAnswer text l₀) × ((l ≡ putBuffer text l₀) × (lengthOf r ≤ length l₀))
 
 -- the date is one of the kind, and its text is t
-pub by-text : {a : Answer Fields} {f : Fields} {t : List ℕ} (texts : Fields → Answer (List ℕ)) (l₀ l : List ℕ) (r : Written)
+pub by-text : {a : Answer Fields} {f : Fields} {t : List ℕ} (texts : Fields → Answer (List ℕ)) (l₀ l : List ℕ) (r : Spelled)
     → a ≡ Gives f → texts f ≡ Gives t → Done (Gives t) l₀ r l → Done (a then texts) l₀ r l
 by-text texts l₀ l r e p d = rw (e, p) d
 

@@ -7,7 +7,7 @@ ghost use Rattle.rules.specs.Kinds.{handedIn};
 ghost use Rattle.rules.specs.Spelling.{hasIsoDate, dotted, iso, exchange, isoDateAlone, putAnswer, putBuffer};
 ghost use Rattle.expanded.specs.Views.{kindOf};
 ghost use Rattle.formatter.specs.Pieces.{textOf};
-ghost use Rattle.formatter.specs.Views.{written, lengthOf};
+ghost use Rattle.formatter.specs.Views.{spelled, lengthOf};
 use expanded::ExpandedRawDate;
 use expanded::Kind;
 use expanded::Opened;
@@ -22,16 +22,16 @@ mod pieces;
 mod years;
 
 // How many bytes were written; or why none was: the date is not of the kind, or the buffer is shorter than the text.
-pub enum Written {
+pub enum Spelled {
     Length(usize),
     NotOfKind,
     Short,
 }
 
 // A text at the front of a buffer, or nothing where the buffer is too short.
-fn put_text(out: &mut [u8], year: Year, style: Style, month: u8, day: u8, hour: Hour) -> Written
+fn put_text(out: &mut [u8], year: Year, style: Style, month: u8, day: u8, hour: Hour) -> Spelled
     requires { ⌜ (year .digits ≤ 5) × (month < 100) × (day < 100) × (hour .value < 100) ⌝ }
-    ensures { λ r. ⌜ written r ≡ putAnswer (Gives (textOf year style month day hour)) (now (out .entry)) ⌝ }
+    ensures { λ r. ⌜ spelled r ≡ putAnswer (Gives (textOf year style month day hour)) (now (out .entry)) ⌝ }
     ensures { λ _. ⌜ now (out .exit) ≡ putBuffer (Gives (textOf year style month day hour)) (now (out .entry)) ⌝ }
     ensures { λ r. ⌜ lengthOf r ≤ length (now (out .entry)) ⌝ }
 {
@@ -40,18 +40,18 @@ fn put_text(out: &mut [u8], year: Year, style: Style, month: u8, day: u8, hour: 
     let hour_at = day_at + pieces::marked_length(style, day);
     let end = hour_at + pieces::hour_length(hour);
     if out.len() < end {
-        return Written::Short;
+        return Spelled::Short;
     }
     years::put_year(out, year);
     pieces::put_marked(&mut out[month_at..], style, month);
     pieces::put_marked(&mut out[day_at..], style, day);
     pieces::put_hour(&mut out[hour_at..], hour);
-    Written::Length(end)
+    Spelled::Length(end)
 }
 
 // Year, month and day with dots between, and the hour if it is not 0.
-pub fn game_fmt(kind: Kind, date: Packed, out: &mut [u8]) -> Written
-    ensures { λ r. ⌜ written r ≡ putAnswer (handedIn (kindOf kind) (date .year) (date .word) then λ f. Gives (dotted (kindOf kind) f)) (now (out .entry)) ⌝ }
+pub fn game_fmt(kind: Kind, date: Packed, out: &mut [u8]) -> Spelled
+    ensures { λ r. ⌜ spelled r ≡ putAnswer (handedIn (kindOf kind) (date .year) (date .word) then λ f. Gives (dotted (kindOf kind) f)) (now (out .entry)) ⌝ }
     ensures { λ _. ⌜ now (out .exit) ≡ putBuffer (handedIn (kindOf kind) (date .year) (date .word) then λ f. Gives (dotted (kindOf kind) f)) (now (out .entry)) ⌝ }
     ensures { λ r. ⌜ lengthOf r ≤ length (now (out .entry)) ⌝ }
 {
@@ -62,13 +62,13 @@ pub fn game_fmt(kind: Kind, date: Packed, out: &mut [u8]) -> Written
             let hour = kinds::dotted_hour(f.hour);
             put_text(out, year, kinds::dotted_style(kind), f.month, f.day, hour)
         }
-        Opened::NotOfKind => Written::NotOfKind,
+        Opened::NotOfKind => Spelled::NotOfKind,
     }
 }
 
 // The ISO text, its year in width 4 with the sign counted.
-pub fn iso_8601(kind: Kind, date: Packed, out: &mut [u8]) -> Written
-    ensures { λ r. ⌜ written r ≡ putAnswer (handedIn (kindOf kind) (date .year) (date .word) then λ f. Gives (iso (kindOf kind) f)) (now (out .entry)) ⌝ }
+pub fn iso_8601(kind: Kind, date: Packed, out: &mut [u8]) -> Spelled
+    ensures { λ r. ⌜ spelled r ≡ putAnswer (handedIn (kindOf kind) (date .year) (date .word) then λ f. Gives (iso (kindOf kind) f)) (now (out .entry)) ⌝ }
     ensures { λ _. ⌜ now (out .exit) ≡ putBuffer (handedIn (kindOf kind) (date .year) (date .word) then λ f. Gives (iso (kindOf kind) f)) (now (out .entry)) ⌝ }
     ensures { λ r. ⌜ lengthOf r ≤ length (now (out .entry)) ⌝ }
 {
@@ -79,13 +79,13 @@ pub fn iso_8601(kind: Kind, date: Packed, out: &mut [u8]) -> Written
             let hour = kinds::iso_hour(kind, f.hour);
             put_text(out, year, kinds::ISO, f.month, f.day, hour)
         }
-        Opened::NotOfKind => Written::NotOfKind,
+        Opened::NotOfKind => Spelled::NotOfKind,
     }
 }
 
 // The exchange text, its year in at least four digits after a sign too.
-pub fn exchange(kind: Kind, date: Packed, out: &mut [u8]) -> Written
-    ensures { λ r. ⌜ written r ≡ putAnswer (handedIn (kindOf kind) (date .year) (date .word) then λ f. Gives (exchange (kindOf kind) f)) (now (out .entry)) ⌝ }
+pub fn exchange(kind: Kind, date: Packed, out: &mut [u8]) -> Spelled
+    ensures { λ r. ⌜ spelled r ≡ putAnswer (handedIn (kindOf kind) (date .year) (date .word) then λ f. Gives (exchange (kindOf kind) f)) (now (out .entry)) ⌝ }
     ensures { λ _. ⌜ now (out .exit) ≡ putBuffer (handedIn (kindOf kind) (date .year) (date .word) then λ f. Gives (exchange (kindOf kind) f)) (now (out .entry)) ⌝ }
     ensures { λ r. ⌜ lengthOf r ≤ length (now (out .entry)) ⌝ }
 {
@@ -96,7 +96,7 @@ pub fn exchange(kind: Kind, date: Packed, out: &mut [u8]) -> Written
             let hour = kinds::iso_hour(kind, f.hour);
             put_text(out, year, kinds::ISO, f.month, f.day, hour)
         }
-        Opened::NotOfKind => Written::NotOfKind,
+        Opened::NotOfKind => Spelled::NotOfKind,
     }
 }
 
@@ -115,8 +115,8 @@ fn has_iso_date(kind: Kind) -> bool
 }
 
 // The ISO date alone, which E has; the other kinds are refused.
-pub fn date_fmt(kind: Kind, date: Packed, out: &mut [u8]) -> Written
-    ensures { λ r. ⌜ written r ≡ putAnswer (handedIn (kindOf kind) (date .year) (date .word) then λ f. isoDateAlone (kindOf kind) f) (now (out .entry)) ⌝ }
+pub fn date_fmt(kind: Kind, date: Packed, out: &mut [u8]) -> Spelled
+    ensures { λ r. ⌜ spelled r ≡ putAnswer (handedIn (kindOf kind) (date .year) (date .word) then λ f. isoDateAlone (kindOf kind) f) (now (out .entry)) ⌝ }
     ensures { λ _. ⌜ now (out .exit) ≡ putBuffer (handedIn (kindOf kind) (date .year) (date .word) then λ f. isoDateAlone (kindOf kind) f) (now (out .entry)) ⌝ }
     ensures { λ r. ⌜ lengthOf r ≤ length (now (out .entry)) ⌝ }
 {
@@ -127,8 +127,8 @@ pub fn date_fmt(kind: Kind, date: Packed, out: &mut [u8]) -> Written
                 let year = years::iso_year(f.year);
                 return put_text(out, year, kinds::ISO, f.month, f.day, kinds::no_hour());
             }
-            Written::NotOfKind
+            Spelled::NotOfKind
         }
-        Opened::NotOfKind => Written::NotOfKind,
+        Opened::NotOfKind => Spelled::NotOfKind,
     }
 }

@@ -1,15 +1,20 @@
 // The raw date (R): any month of 1 to 31 days, with an hour of 1 to 24 or none.
 ghost use mathlib.Core.Path.{_≡_};
+ghost use Prim.Native.Nat.{_≤_};
+ghost use lib.ListN.{length};
 ghost use Rattle.rules.specs.Refusals.{Gives, _then_};
 ghost use Rattle.rules.specs.Kinds.{kR, unpacked, least, greatest, fromFields, handedIn, stored, store};
 ghost use Rattle.rules.specs.Numbers.{readNumber};
 ghost use Rattle.rules.specs.Days.{order};
 ghost use Rattle.rules.specs.Text.{readText};
+ghost use Rattle.rules.specs.Spelling.{dotted, iso, exchange, putAnswer, putBuffer};
 ghost use Rattle.expanded.specs.Views.{ordered};
+ghost use Rattle.formatter.specs.Views.{spelled, lengthOf};
 ghost use Rattle.raw_date.specs.Views.{bits, made, parsed, decoded};
 use expanded::Kind;
 use expanded::Ordered;
 use expanded::Packed;
+use formatter::Spelled;
 use scalar::Leading;
 
 pub struct RawDate {
@@ -128,5 +133,32 @@ impl RawDate {
         ensures { λ r. ⌜ ordered r ≡ (handedIn kR (self .raw .year) (self .raw .word) then λ f. handedIn kR (other .raw .year) (other .raw .word) then λ g. Gives (order f g)) ⌝ }
     {
         expanded::compare(Kind::Raw, self.raw, other.raw)
+    }
+
+    // The dotted text at the front of a buffer.
+    pub fn game_fmt(self, out: &mut [u8]) -> Spelled
+        ensures { λ r. ⌜ spelled r ≡ putAnswer (handedIn kR (self .raw .year) (self .raw .word) then λ f. Gives (dotted kR f)) (now (out .entry)) ⌝ }
+        ensures { λ _. ⌜ now (out .exit) ≡ putBuffer (handedIn kR (self .raw .year) (self .raw .word) then λ f. Gives (dotted kR f)) (now (out .entry)) ⌝ }
+        ensures { λ r. ⌜ lengthOf r ≤ length (now (out .entry)) ⌝ }
+    {
+        formatter::game_fmt(Kind::Raw, self.raw, out)
+    }
+
+    // The ISO text.
+    pub fn iso_8601(self, out: &mut [u8]) -> Spelled
+        ensures { λ r. ⌜ spelled r ≡ putAnswer (handedIn kR (self .raw .year) (self .raw .word) then λ f. Gives (iso kR f)) (now (out .entry)) ⌝ }
+        ensures { λ _. ⌜ now (out .exit) ≡ putBuffer (handedIn kR (self .raw .year) (self .raw .word) then λ f. Gives (iso kR f)) (now (out .entry)) ⌝ }
+        ensures { λ r. ⌜ lengthOf r ≤ length (now (out .entry)) ⌝ }
+    {
+        formatter::iso_8601(Kind::Raw, self.raw, out)
+    }
+
+    // The exchange text.
+    pub fn exchange(self, out: &mut [u8]) -> Spelled
+        ensures { λ r. ⌜ spelled r ≡ putAnswer (handedIn kR (self .raw .year) (self .raw .word) then λ f. Gives (exchange kR f)) (now (out .entry)) ⌝ }
+        ensures { λ _. ⌜ now (out .exit) ≡ putBuffer (handedIn kR (self .raw .year) (self .raw .word) then λ f. Gives (exchange kR f)) (now (out .entry)) ⌝ }
+        ensures { λ r. ⌜ lengthOf r ≤ length (now (out .entry)) ⌝ }
+    {
+        formatter::exchange(Kind::Raw, self.raw, out)
     }
 }

@@ -1,14 +1,19 @@
 // The uniform date (U): twelve months of 30 days, without an hour.
 ghost use mathlib.Core.Path.{_≡_};
+ghost use Prim.Native.Nat.{_≤_};
+ghost use lib.ListN.{length};
 ghost use Rattle.rules.specs.Refusals.{Gives, _then_};
 ghost use Rattle.rules.specs.Kinds.{kU, unpacked, least, greatest, fromFields, handedIn, stored, store};
 ghost use Rattle.rules.specs.Days.{order};
 ghost use Rattle.rules.specs.Text.{readText};
+ghost use Rattle.rules.specs.Spelling.{dotted, iso, exchange, putAnswer, putBuffer};
 ghost use Rattle.expanded.specs.Views.{ordered};
+ghost use Rattle.formatter.specs.Views.{spelled, lengthOf};
 ghost use Rattle.uniform_date.specs.Views.{bits, made, parsed};
 use expanded::Kind;
 use expanded::Ordered;
 use expanded::Packed;
+use formatter::Spelled;
 use scalar::Leading;
 
 pub struct UniformDate {
@@ -110,5 +115,32 @@ impl UniformDate {
         ensures { λ r. ⌜ ordered r ≡ (handedIn kU (self .raw .year) (self .raw .word) then λ f. handedIn kU (other .raw .year) (other .raw .word) then λ g. Gives (order f g)) ⌝ }
     {
         expanded::compare(Kind::Uniform, self.raw, other.raw)
+    }
+
+    // The dotted text at the front of a buffer.
+    pub fn game_fmt(self, out: &mut [u8]) -> Spelled
+        ensures { λ r. ⌜ spelled r ≡ putAnswer (handedIn kU (self .raw .year) (self .raw .word) then λ f. Gives (dotted kU f)) (now (out .entry)) ⌝ }
+        ensures { λ _. ⌜ now (out .exit) ≡ putBuffer (handedIn kU (self .raw .year) (self .raw .word) then λ f. Gives (dotted kU f)) (now (out .entry)) ⌝ }
+        ensures { λ r. ⌜ lengthOf r ≤ length (now (out .entry)) ⌝ }
+    {
+        formatter::game_fmt(Kind::Uniform, self.raw, out)
+    }
+
+    // The ISO text.
+    pub fn iso_8601(self, out: &mut [u8]) -> Spelled
+        ensures { λ r. ⌜ spelled r ≡ putAnswer (handedIn kU (self .raw .year) (self .raw .word) then λ f. Gives (iso kU f)) (now (out .entry)) ⌝ }
+        ensures { λ _. ⌜ now (out .exit) ≡ putBuffer (handedIn kU (self .raw .year) (self .raw .word) then λ f. Gives (iso kU f)) (now (out .entry)) ⌝ }
+        ensures { λ r. ⌜ lengthOf r ≤ length (now (out .entry)) ⌝ }
+    {
+        formatter::iso_8601(Kind::Uniform, self.raw, out)
+    }
+
+    // The exchange text.
+    pub fn exchange(self, out: &mut [u8]) -> Spelled
+        ensures { λ r. ⌜ spelled r ≡ putAnswer (handedIn kU (self .raw .year) (self .raw .word) then λ f. Gives (exchange kU f)) (now (out .entry)) ⌝ }
+        ensures { λ _. ⌜ now (out .exit) ≡ putBuffer (handedIn kU (self .raw .year) (self .raw .word) then λ f. Gives (exchange kU f)) (now (out .entry)) ⌝ }
+        ensures { λ r. ⌜ lengthOf r ≤ length (now (out .entry)) ⌝ }
+    {
+        formatter::exchange(Kind::Uniform, self.raw, out)
     }
 }

@@ -1,17 +1,22 @@
 // Victoria 3's date (V): a day of the calendar, at hour 0, 6, 12 or 18.
 ghost use mathlib.Core.Path.{_≡_};
+ghost use Prim.Native.Nat.{_≤_};
+ghost use lib.ListN.{length};
 ghost use Rattle.rules.specs.Refusals.{Gives, _then_};
 ghost use Rattle.rules.specs.Kinds.{kV, unpacked, least, greatest, fromFields, handedIn, stored, store};
 ghost use Rattle.rules.specs.Numbers.{readNumber, guessNumber};
 ghost use Rattle.rules.specs.Days.{addDays, difference, order};
 ghost use Rattle.rules.specs.Text.{readText};
+ghost use Rattle.rules.specs.Spelling.{dotted, iso, exchange, putAnswer, putBuffer};
 ghost use Rattle.expanded.specs.Views.{ordered};
 ghost use Rattle.day_count.specs.Views.{counted};
+ghost use Rattle.formatter.specs.Views.{spelled, lengthOf};
 ghost use Rattle.vic3_date.specs.Views.{bits, made, parsed, decoded, guessed, summed};
 use day_count::Days;
 use expanded::Kind;
 use expanded::Ordered;
 use expanded::Packed;
+use formatter::Spelled;
 use scalar::Leading;
 
 pub struct Vic3Date {
@@ -174,5 +179,32 @@ impl Vic3Date {
         ensures { λ r. ⌜ ordered r ≡ (handedIn kV (self .raw .year) (self .raw .word) then λ f. handedIn kV (other .raw .year) (other .raw .word) then λ g. Gives (order f g)) ⌝ }
     {
         expanded::compare(Kind::Vic3, self.raw, other.raw)
+    }
+
+    // The dotted text at the front of a buffer.
+    pub fn game_fmt(self, out: &mut [u8]) -> Spelled
+        ensures { λ r. ⌜ spelled r ≡ putAnswer (handedIn kV (self .raw .year) (self .raw .word) then λ f. Gives (dotted kV f)) (now (out .entry)) ⌝ }
+        ensures { λ _. ⌜ now (out .exit) ≡ putBuffer (handedIn kV (self .raw .year) (self .raw .word) then λ f. Gives (dotted kV f)) (now (out .entry)) ⌝ }
+        ensures { λ r. ⌜ lengthOf r ≤ length (now (out .entry)) ⌝ }
+    {
+        formatter::game_fmt(Kind::Vic3, self.raw, out)
+    }
+
+    // The ISO text.
+    pub fn iso_8601(self, out: &mut [u8]) -> Spelled
+        ensures { λ r. ⌜ spelled r ≡ putAnswer (handedIn kV (self .raw .year) (self .raw .word) then λ f. Gives (iso kV f)) (now (out .entry)) ⌝ }
+        ensures { λ _. ⌜ now (out .exit) ≡ putBuffer (handedIn kV (self .raw .year) (self .raw .word) then λ f. Gives (iso kV f)) (now (out .entry)) ⌝ }
+        ensures { λ r. ⌜ lengthOf r ≤ length (now (out .entry)) ⌝ }
+    {
+        formatter::iso_8601(Kind::Vic3, self.raw, out)
+    }
+
+    // The exchange text.
+    pub fn exchange(self, out: &mut [u8]) -> Spelled
+        ensures { λ r. ⌜ spelled r ≡ putAnswer (handedIn kV (self .raw .year) (self .raw .word) then λ f. Gives (exchange kV f)) (now (out .entry)) ⌝ }
+        ensures { λ _. ⌜ now (out .exit) ≡ putBuffer (handedIn kV (self .raw .year) (self .raw .word) then λ f. Gives (exchange kV f)) (now (out .entry)) ⌝ }
+        ensures { λ r. ⌜ lengthOf r ≤ length (now (out .entry)) ⌝ }
+    {
+        formatter::exchange(Kind::Vic3, self.raw, out)
     }
 }

@@ -1,0 +1,11 @@
+-- The answer of the code, as that of `rules`. Assumes nothing.
+use Rattle.rules.specs.Refusals.{Answer, Gives, Refused, tooLong, notText}
+use Rattle.rules.specs.Kinds.{Stored}
+use Rattle.expanded.specs.Views.{bitsOf}
+use Rattle.by_kind.specs.declared.Parsed.{Parsed}
+use Rattle.by_kind.specs.declared.Parsed.the-variants as P
+
+abbrev pub parsed : Parsed → Answer Stored
+parsed (P.Date p) = Gives (bitsOf p)
+parsed P.TooLong = Refused tooLong
+parsed P.NotText = Refused notText

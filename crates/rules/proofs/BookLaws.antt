@@ -1,19 +1,20 @@
 -- What it is to hold a book of some records, that `records` finds them exactly then, and each way in which it answers. Over the format.
 -- Assumes nothing.
-use mathlib.Core.Path.{_≡_, refl, sym, ap, _∙_}
+use mathlib.Core.Path.{_≡_, refl, sym, ap, subst, _∙_}
 use mathlib.Core.Bool.{Bool, true, false, cond}
 use mathlib.Core.List.{List}
 use Prim.Native.Nat.{ℕ, _+_, _*_, _-_, _/_, _%_, _^_, _≤_, _<_}
 use native.Mathlib.Nat.{div-add-mod', mul-le-mul-right, le-of-mul-le-mul-right, mul-mod-left, mul-div-cancel}
 use native.Mathlib.Omega.{arith}
 use borrow.Author.Tests.{le-leb, lt-leb, le-ltb, lt-ltb, eq-eqb, ne-eqb, leb-true, ltb-false, eqb-true}
-use lib.Dec.{leb, ltb, eqb}
-use lib.ListN.{length, drop}
+use lib.Dec.{T, leb, ltb, eqb}
+use lib.ListN.{length, take, drop}
+use lib.Seq.{drop-drop}
 use Rattle.rules.specs.Words.{within}
-use Rattle.rules.specs.Refusals.{Answer, Gives, Refused, RefusedAt, _then_, demand, badLength, badVersion, badRecord}
-use Rattle.rules.specs.Book.{Format, lengthSize, headSize, lengthSaid, versionOf, pieces, recordsIn, firstBad, allSound, records, check}
+use Rattle.rules.specs.Refusals.{Answer, Gives, Refused, RefusedAt, _then_, demand, given, badLength, badVersion, badRecord, noRecord}
+use Rattle.rules.specs.Book.{Format, lengthSize, headSize, lengthSaid, versionOf, pieces, recordsIn, firstBad, allSound, records, check, pick, recordAt}
 use Rattle.rules.proofs.KindLaws.{low, high, yes-within}
-use Rattle.rules.proofs.PieceLaws.{piece-count}
+use Rattle.rules.proofs.PieceLaws.{piece-count, each-sound, pick-piece, pick-past}
 
 -- records have bytes, and the length of a full book fits the bytes that say it
 pub record Sensible (format : Format) : Type 0 where
@@ -40,6 +41,11 @@ then-then (RefusedAt n place) f g = refl
 pub demand-met : {A : Type 0} (t : Bool) (n : ℕ) (x : Answer A) (a : A) → demand t n x ≡ Gives a → (t ≡ true) × (x ≡ Gives a)
 demand-met true n x a e = (refl, e)
 demand-met false n x a e = let z : _≡_ {A = ℕ} 0 1 = cc in absurd (omega arith)
+
+-- the count, from what is answered of the records
+pub check-by : (format : Format) (s : List ℕ) {x : Answer (List (List ℕ))} → records format s ≡ x → check format s ≡ (x then λ rs. Gives (length rs))
+unfolding check
+check-by format s e = ap (λ (a : Answer (List (List ℕ))). a then λ rs. Gives (length rs)) e
 
 -- ---- each way in which the records are answered, where the four bytes say L
 
@@ -172,3 +178,67 @@ module _ (format : Format) (sensible : Sensible format) where
       inner (Gives rs) p q = record { list = rs; found = p; count = cc; holds = found-holds s rs p }
       inner (Refused code) p q = let z : _≡_ {A = ℕ} 0 1 = cc in absurd (omega arith)
       inner (RefusedAt code place) p q = let z : _≡_ {A = ℕ} 0 1 = cc in absurd (omega arith)
+
+  -- a checked book has as many records as its length says
+  pub checked : (s : List ℕ) → given (check format s) ≡ true → Counted s ((lengthSaid s - 1) / k)
+  checked s e = inner (check format s) refl e
+    where
+      inner : (x : Answer ℕ) → check format s ≡ x → given x ≡ true → Counted s ((lengthSaid s - 1) / k)
+      inner (Gives n) p q =
+          let c = counted s n p in
+          let h : lengthSaid s ≡ 1 + n * k = rw (c .count) at (c .holds .says) in
+          let u : lengthSaid s - 1 ≡ n * k = omega arith in
+          let d : (lengthSaid s - 1) / k ≡ n = ap (λ (x : ℕ). x / k) u ∙ mul-div-cancel n (sensible .some) in
+          counted s ((lengthSaid s - 1) / k) (p ∙ ap Gives (sym d))
+      inner (Refused code) p q = absurd (subst T (sym q) tt)
+      inner (RefusedAt code place) p q = absurd (subst T (sym q) tt)
+
+  -- ---- what stands at a place of a book of n records
+
+  module _ (s : List ℕ) (n : ℕ) (c : Counted s n) (i : ℕ) where
+    abbrev pub recordHere : List ℕ
+    recordHere = take k (drop (headSize + i * k) s)
+
+    pub ends-inside : i < n → headSize + i * k + k ≤ length s
+    ends-inside h =
+        let f = c .holds .fits in let m = c .count in
+        let q : (i + 1) * k ≤ length (c .list) * k = mul-le-mul-right k (let g : i + 1 ≤ length (c .list) = omega arith in g) in
+        omega arith
+
+    picked : i < n → pick (c .list) i ≡ Gives recordHere
+    picked h =
+        let m = c .count in
+        let p : pick (pieces (length (c .list)) k (drop headSize s)) i ≡ Gives (take k (drop (i * k) (drop headSize s))) =
+            pick-piece (length (c .list)) k (drop headSize s) i (omega arith) in
+        rw (c .holds .cut, drop-drop (i * k) headSize s) at p
+
+    pub record-here : i < n → recordAt format s i ≡ Gives recordHere
+    unfolding recordAt
+    record-here h = rw (c .found) (picked h)
+
+    pub sound-here : i < n → format .sound recordHere ≡ true
+    sound-here h = each-sound (format .sound) (c .list) (c .holds .sound) i recordHere (picked h)
+
+    pub record-none : n ≤ i → recordAt format s i ≡ Refused noRecord
+    unfolding recordAt
+    record-none h = rw (c .found) (pick-past (c .list) i (let m = c .count in omega arith))
+
+-- ---- where the check refuses, so does all else, and in the same words
+
+pub same-refusal : {A B : Type 0} (x : Answer A) (f : A → B) (n : ℕ) → (x then λ a. Gives (f a)) ≡ Refused n → x ≡ Refused n
+same-refusal (Gives a) f n e = let z : _≡_ {A = ℕ} 0 1 = cc in absurd (omega arith)
+same-refusal (Refused m) f n e = let z : m ≡ n = cc in ap Refused z
+same-refusal (RefusedAt m place) f n e = let z : _≡_ {A = ℕ} 0 1 = cc in absurd (omega arith)
+
+pub same-place : {A B : Type 0} (x : Answer A) (f : A → B) (n i : ℕ) → (x then λ a. Gives (f a)) ≡ RefusedAt n i → x ≡ RefusedAt n i
+same-place (Gives a) f n i e = let z : _≡_ {A = ℕ} 0 1 = cc in absurd (omega arith)
+same-place (Refused m) f n i e = let z : _≡_ {A = ℕ} 0 1 = cc in absurd (omega arith)
+same-place (RefusedAt m j) f n i e = let z : m ≡ n = cc in let w : j ≡ i = cc in rw (z, w)
+
+pub record-refused : (format : Format) (s : List ℕ) (n i : ℕ) → check format s ≡ Refused n → recordAt format s i ≡ Refused n
+unfolding check recordAt
+record-refused format s n i e = rw (same-refusal (records format s) length n e)
+
+pub record-bad : (format : Format) (s : List ℕ) (n place i : ℕ) → check format s ≡ RefusedAt n place → recordAt format s i ≡ RefusedAt n place
+unfolding check recordAt
+record-bad format s n place i e = rw (same-place (records format s) length n place e)

@@ -1,5 +1,5 @@
 -- The record of a date in a book: its five bytes, and the date back from them, for every date of every kind. Assumes nothing.
-use mathlib.Core.Path.{_≡_, refl, ap, _∙_}
+use mathlib.Core.Path.{_≡_, refl, sym, ap, _∙_}
 use mathlib.Core.Bool.{true}
 use mathlib.Core.List.{List}
 use Prim.Native.Nat.{ℕ, suc, _+_, _-_, _≤_, _<_}
@@ -13,7 +13,7 @@ use Rattle.sign.proofs.Laws.{same, ints}
 use Rattle.rules.specs.Words.{bigEndian, bigBytes}
 use Rattle.rules.specs.Refusals.{Answer, Gives, _then_, given}
 use Rattle.rules.specs.Kinds.{Kind, kR, kD, kH, kU, kE, kV, Fields, ofKind, packed, handedIn}
-use Rattle.rules.specs.Book.{kindCode, kindOfCode, twosComplement, yearOfTwos, entryBytes, entryOf, entryFor, today, check, entryAt, appendAnswer, appendBuffer}
+use Rattle.rules.specs.Book.{kindCode, kindOfCode, twosComplement, yearOfTwos, entryBytes, entryOf, entryFor, today, check, recordAt, entryAt, appendAnswer, appendBuffer}
 use Rattle.rules.proofs.KindLaws.{fit}
 use Rattle.rules.proofs.PackLaws.{handed-back, word-fits}
 use Rattle.rules.proofs.ByteLaws.{number-back}
@@ -86,6 +86,11 @@ entry-for k year word = rw (code-back k)
 pub today-sensible : Sensible today
 today-sensible = record { some = lit< tt; fits = lit< tt }
 
+-- the entry at a place, from what is answered of the record there
+pub entry-by : (s : List ℕ) (i : ℕ) {x : Answer (List ℕ)} → recordAt today s i ≡ x → entryAt s i ≡ (x then entryOf)
+unfolding entryAt
+entry-by s i e = ap (λ (a : Answer (List ℕ)). a then entryOf) e
+
 module _ (k : Kind) (f : Fields) (p : ofKind k f ≡ true) (s : List ℕ) (n : ℕ) (e : appendAnswer today (Gives (entryBytes k f)) s ≡ Gives n) where
   abbrev after : List ℕ
   after = appendBuffer today (Gives (entryBytes k f)) s
@@ -94,11 +99,8 @@ module _ (k : Kind) (f : Fields) (p : ofKind k f ≡ true) (s : List ℕ) (n : �
   one-record-more = count-after today today-sensible (entryBytes k f) s n e (entry-long k f) (entry-sound k f p)
 
   pub old-entries : (i : ℕ) → i < n → entryAt after i ≡ entryAt s i
-  unfolding entryAt
-  old-entries i h = ap (λ (x : Answer (List ℕ)). x then entryOf) (old-after today today-sensible (entryBytes k f) s n e (entry-long k f) (entry-sound k f p) i h)
+  old-entries i h =
+      entry-by after i (old-after today today-sensible (entryBytes k f) s n e (entry-long k f) (entry-sound k f p) i h) ∙ sym (entry-by s i refl)
 
   pub new-entry : entryAt after n ≡ Gives (record { kind = k; date = f })
-  unfolding entryAt
-  new-entry =
-      ap (λ (x : Answer (List ℕ)). x then entryOf) (new-after today today-sensible (entryBytes k f) s n e (entry-long k f) (entry-sound k f p))
-      ∙ entry-back k f p
+  new-entry = entry-by after n (new-after today today-sensible (entryBytes k f) s n e (entry-long k f) (entry-sound k f p)) ∙ entry-back k f p

@@ -65,6 +65,39 @@ one-more sound [] r h e = rw e (omega arith)
 one-more sound (x ∷ rs) r h e =
     let p = passed (sound x) _ _ h in let q = one-more sound rs r (p .1) e in rw (p .0) (omega arith)
 
+-- ---- a search from place to place: what is left of n pieces from place i on, where they start at h
+
+module _ (sound : List ℕ → Bool) (k h : ℕ) (s : List ℕ) (n : ℕ) where
+  abbrev pub leftFrom : ℕ → ℕ
+  leftFrom i = i + firstBad sound (pieces (n - i) k (drop (h + i * k) s))
+
+  module _ (i : ℕ) where
+    abbrev piece : List ℕ
+    piece = take k (drop (h + i * k) s)
+
+    abbrev after : List (List ℕ)
+    after = pieces (n - (i + 1)) k (drop (h + (i + 1) * k) s)
+
+    turn : i < n → pieces (n - i) k (drop (h + i * k) s) ≡ piece ∷ after
+    unfolding pieces
+    turn l =
+        let e : n - i ≡ suc (n - (i + 1)) = omega arith in
+        let f : h + (i + 1) * k ≡ h + i * k + k = omega arith in
+        rw (e, f, drop-drop k (h + i * k) s)
+
+    -- the piece at i is sound: what is left after it has the answer
+    pub search-on : i < n → sound piece ≡ true → leftFrom i ≡ leftFrom (i + 1)
+    search-on l e = rw (turn l, first-good sound piece after e) (omega arith)
+
+    -- it is not: i is the answer
+    pub search-stops : i < n → sound piece ≡ false → leftFrom i ≡ i
+    search-stops l e = rw (turn l, first-not sound piece after e) (omega arith)
+
+    -- nothing is left
+    pub search-ends : n ≤ i → leftFrom i ≡ i
+    unfolding pieces firstBad
+    search-ends l = let e : n - i ≡ 0 = omega arith in rw e (omega arith)
+
 -- ---- the one at a place
 
 pub pick-old : (rs ys : List (List ℕ)) (i : ℕ) → i < length rs → pick (rs ++ ys) i ≡ pick rs i

@@ -1,0 +1,59 @@
+-- The five bytes of a record: where they stand, and what they are by the tests that the code makes. Assumes nothing.
+use mathlib.Core.Path.{_≡_, refl}
+use mathlib.Core.Bool.{true, false}
+use mathlib.Core.List.{List, [], _∷_}
+use Prim.Native.Nat.{ℕ, _+_, _*_, _≤_}
+use native.Mathlib.Omega.{arith}
+use lib.IntN.{ℤ}
+use lib.ListN.{length, getD, take, drop}
+use Rattle.rules.specs.Words.{bigEndian}
+use Rattle.rules.specs.Refusals.{Answer, Gives, Refused, RefusedAt, given, notOfKind}
+use Rattle.rules.specs.Kinds.{Kind, handedIn}
+use Rattle.rules.specs.Book.{kindOfCode, yearOfTwos, Entry, entryOf}
+use Rattle.rules.proofs.Rests.{here}
+use Rattle.expanded.proofs.Laws.{handed-by, handed-word}
+use Rattle.book.specs.Views.{inBits}
+
+-- byte by byte
+pub five-at : (s : List ℕ) (at : ℕ) → at + 5 ≤ length s →
+    take 5 (drop at s) ≡ getD s at 0 ∷ getD s (at + 1) 0 ∷ getD s (at + 2) 0 ∷ getD s (at + 3) 0 ∷ getD s (at + 4) 0 ∷ []
+five-at s at h =
+    let p : at + 1 + 1 ≡ at + 2 = omega arith in
+    let q : at + 2 + 1 ≡ at + 3 = omega arith in
+    let r : at + 3 + 1 ≡ at + 4 = omega arith in
+    rw (
+      here s at (omega arith),
+      here s (at + 1) (omega arith),
+      p,
+      here s (at + 2) (omega arith),
+      q,
+      here s (at + 3) (omega arith),
+      r,
+      here s (at + 4) (omega arith),
+    )
+
+pub given-bits : (x : Answer Entry) → given (inBits x) ≡ given x
+given-bits (Gives e) = refl
+given-bits (Refused n) = refl
+given-bits (RefusedAt n place) = refl
+
+module _ (code y₁ y₀ w₁ w₀ : ℕ) where
+  abbrev five : List ℕ
+  five = code ∷ y₁ ∷ y₀ ∷ w₁ ∷ w₀ ∷ []
+
+  pub no-kind : kindOfCode code ≡ Refused notOfKind → inBits (entryOf five) ≡ Refused notOfKind
+  unfolding entryOf
+  no-kind e = rw e
+
+  module _ {k : Kind} (e : kindOfCode code ≡ Gives k) {year : ℤ} (y : year ≡ yearOfTwos (y₁ * 256 + y₀)) {word : ℕ} (w : word ≡ w₁ * 256 + w₀) where
+    two : (high low : ℕ) → bigEndian (high ∷ low ∷ []) ≡ high * 256 + low
+    unfolding bigEndian
+    two high low = omega arith
+
+    pub of-kind : given (handedIn k year word) ≡ true → inBits (entryOf five) ≡ Gives (record { kind = k; date = record { year = year; word = word } })
+    unfolding entryOf
+    of-kind g = rw (e, two y₁ y₀, two w₁ w₀, ← y, ← w, handed-by k year word g, handed-word k year word g)
+
+    pub not-of-kind : given (handedIn k year word) ≡ false → inBits (entryOf five) ≡ Refused notOfKind
+    unfolding entryOf
+    not-of-kind g = rw (e, two y₁ y₀, two w₁ w₀, ← y, ← w, handed-by k year word g)

@@ -1,18 +1,23 @@
 -- The five bytes of a record: where they stand, and what they are by the tests that the code makes. Assumes nothing.
-use mathlib.Core.Path.{_≡_, refl}
+use mathlib.Core.Path.{_≡_, refl, _∙_}
 use mathlib.Core.Bool.{true, false}
 use mathlib.Core.List.{List, [], _∷_}
 use Prim.Native.Nat.{ℕ, _+_, _*_, _≤_}
 use native.Mathlib.Omega.{arith}
 use lib.IntN.{ℤ}
 use lib.ListN.{length, getD, take, drop}
-use Rattle.rules.specs.Words.{bigEndian}
+use Rattle.rules.specs.Words.{bigEndian, bigBytes}
 use Rattle.rules.specs.Refusals.{Answer, Gives, Refused, RefusedAt, given, notOfKind}
-use Rattle.rules.specs.Kinds.{Kind, handedIn}
-use Rattle.rules.specs.Book.{kindOfCode, yearOfTwos, Entry, entryOf}
+use Rattle.rules.specs.Kinds as K
+use Rattle.rules.specs.Kinds.{handedIn}
+use Rattle.rules.specs.Book.{kindCode, kindOfCode, yearOfTwos, entryBytes, Entry, entryOf, entryFor}
 use Rattle.rules.proofs.Rests.{here}
+use Rattle.rules.proofs.EntryLaws.{entry-for}
+use Rattle.expanded.specs.declared.Kind.{Kind}
+use Rattle.expanded.specs.declared.Packed.{Packed}
+use Rattle.expanded.specs.Views.{kindOf}
 use Rattle.expanded.proofs.Laws.{handed-by, handed-word}
-use Rattle.book.specs.Views.{inBits}
+use Rattle.book.specs.Views.{inBits, bytesOf}
 
 -- byte by byte
 pub five-at : (s : List ℕ) (at : ℕ) → at + 5 ≤ length s →
@@ -45,7 +50,7 @@ module _ (code y₁ y₀ w₁ w₀ : ℕ) where
   unfolding entryOf
   no-kind e = rw e
 
-  module _ {k : Kind} (e : kindOfCode code ≡ Gives k) {year : ℤ} (y : year ≡ yearOfTwos (y₁ * 256 + y₀)) {word : ℕ} (w : word ≡ w₁ * 256 + w₀) where
+  module _ {k : K.Kind} (e : kindOfCode code ≡ Gives k) {year : ℤ} (y : year ≡ yearOfTwos (y₁ * 256 + y₀)) {word : ℕ} (w : word ≡ w₁ * 256 + w₀) where
     two : (high low : ℕ) → bigEndian (high ∷ low ∷ []) ≡ high * 256 + low
     unfolding bigEndian
     two high low = omega arith
@@ -57,3 +62,19 @@ module _ (code y₁ y₀ w₁ w₀ : ℕ) where
     pub not-of-kind : given (handedIn k year word) ≡ false → inBits (entryOf five) ≡ Refused notOfKind
     unfolding entryOf
     not-of-kind g = rw (e, two y₁ y₀, two w₁ w₀, ← y, ← w, handed-by k year word g)
+
+-- ---- the record of a date handed in
+
+pub five-long : (k : Kind) (d : Packed) → length (bytesOf k d) ≡ 5
+unfolding bigBytes
+five-long k d = refl
+
+module _ (k : Kind) (d : Packed) where
+  pub entry-given : given (handedIn (kindOf k) (d .year) (d .word)) ≡ true → entryFor (kindCode (kindOf k)) (d .year) (d .word) ≡ Gives (bytesOf k d)
+  unfolding entryBytes
+  entry-given g =
+      entry-for (kindOf k) (d .year) (d .word)
+      ∙ rw (handed-by (kindOf k) (d .year) (d .word) g, handed-word (kindOf k) (d .year) (d .word) g)
+
+  pub entry-not : given (handedIn (kindOf k) (d .year) (d .word)) ≡ false → entryFor (kindCode (kindOf k)) (d .year) (d .word) ≡ Refused notOfKind
+  entry-not g = entry-for (kindOf k) (d .year) (d .word) ∙ rw (handed-by (kindOf k) (d .year) (d .word) g)

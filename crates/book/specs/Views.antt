@@ -1,8 +1,12 @@
 -- The code's answers as those of `rules`. Assumes nothing.
 use Prim.Native.Nat.{ℕ}
+use mathlib.Core.List.{List, _∷_, _++_}
+use Rattle.rules.specs.Words.{bigBytes}
 use Rattle.rules.specs.Refusals.{Answer, Gives, Refused, RefusedAt, _then_, notOfKind, badLength, badVersion, badRecord, noRoom, noRecord}
 use Rattle.rules.specs.Kinds as K
 use Rattle.rules.specs.Book as B
+use Rattle.expanded.specs.declared.Kind.{Kind}
+use Rattle.expanded.specs.declared.Packed.{Packed}
 use Rattle.expanded.specs.Views.{kindOf, bitsOf}
 use Rattle.book.specs.declared.Checked.{Checked}
 use Rattle.book.specs.declared.Checked.the-variants as C
@@ -24,6 +28,10 @@ pub record Bits : Type 0 where
 
 abbrev pub inBits : Answer B.Entry → Answer Bits
 inBits a = a then λ e. Gives (record { kind = e .kind; date = K.stored (e .date) })
+
+-- the five bytes of a date's record, from its bits
+abbrev pub bytesOf : Kind → Packed → List ℕ
+bytesOf k d = B.kindCode (kindOf k) ∷ bigBytes 2 (B.twosComplement (d .year)) ++ bigBytes 2 (d .word)
 
 abbrev pub coded : Coded → Answer K.Kind
 coded (D.Kind k) = Gives (kindOf k)

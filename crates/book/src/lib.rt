@@ -2,15 +2,15 @@
 // each answer is, over the format; these are its operations at today's format. Only the leaves touch bytes.
 ghost use mathlib.Core.Path.{_≡_};
 ghost use mathlib.Core.Bool.{true};
-ghost use mathlib.Core.List.{[], _∷_, _++_};
+ghost use mathlib.Core.List.{[], _∷_};
 ghost use Prim.Native.Nat.{_+_, _*_, _≤_, _<_};
 ghost use lib.ListN.{length, take, drop};
 ghost use lib.Seq.{sets};
 ghost use Rattle.rules.specs.Words.{bigBytes};
-ghost use Rattle.rules.specs.Refusals.{given};
+ghost use Rattle.rules.specs.Refusals.{Gives, given};
 ghost use Rattle.rules.specs.Book.{lengthSaid, pieces, firstBad, check, appendAnswer, appendBuffer, newAnswer, newBuffer, kindCode, kindOfCode, twosComplement, yearOfTwos, entryOf, today, entryAt, entryFor};
 ghost use Rattle.expanded.specs.Views.{kindOf};
-ghost use Rattle.book.specs.Views.{coded, slotAs, inBits, checkedAs, foundAs, appendedAs, startedAs};
+ghost use Rattle.book.specs.Views.{bytesOf, coded, slotAs, inBits, checkedAs, foundAs, appendedAs, startedAs};
 use expanded::Kind;
 use expanded::Packed;
 
@@ -152,6 +152,21 @@ fn sound_at(b: &[u8], at: usize) -> bool
     }
 }
 
+// Five bytes from `at` on: the record of a date.
+fn put_entry(b: &mut [u8], at: usize, kind: Kind, date: Packed)
+    requires { ⌜ at + 5 ≤ length (now b) ⌝ }
+    ensures { λ _. ⌜ now (b .exit) ≡ sets (now (b .entry)) at (bytesOf kind date) ⌝ }
+{
+    let code = kind_code(kind);
+    let year = twos_complement(date.year);
+    let word = date.word;
+    b[at] = code;
+    b[at + 1] = (year / 256) as u8;
+    b[at + 2] = (year % 256) as u8;
+    b[at + 3] = (word / 256) as u8;
+    b[at + 4] = (word % 256) as u8;
+}
+
 // ---- the book
 
 fn join4(a: u8, b: u8, c: u8, d: u8) -> usize
@@ -166,6 +181,16 @@ fn length_said(b: &[u8]) -> usize
     ensures { λ r. ⌜ r ≡ lengthSaid (now (b .entry)) ⌝ }
 {
     join4(b[0], b[1], b[2], b[3])
+}
+
+fn put_length(b: &mut [u8], m: usize)
+    requires { ⌜ (4 ≤ length (now b)) × (m < 4294967296) ⌝ }
+    ensures { λ _. ⌜ now (b .exit) ≡ sets (now (b .entry)) 0 (bigBytes 4 m) ⌝ }
+{
+    b[0] = (m / 16777216) as u8;
+    b[1] = (m / 65536 % 256) as u8;
+    b[2] = (m / 256 % 256) as u8;
+    b[3] = (m % 256) as u8;
 }
 
 // The place of the first of n records that is not sound, or n.
@@ -244,4 +269,53 @@ pub fn record_at(b: &[u8], place: usize) -> Found
         Checked::BadVersion => Found::BadVersion,
         Checked::BadRecord(bad) => Found::BadRecord(bad),
     }
+}
+
+// Writes an empty book. The bytes after it stay.
+pub fn new(b: &mut [u8]) -> Started
+    ensures { λ r. ⌜ startedAs r ≡ newAnswer (now (b .entry)) ⌝ }
+    ensures { λ r. ⌜ now (b .exit) ≡ newBuffer today (now (b .entry)) ⌝ }
+{
+    if b.len() < 5 {
+        return Started::NoRoom;
+    }
+    b[4] = 1;
+    put_length(b, 1);
+    Started::Written
+}
+
+// Writes the record of a date of the kind.
+fn append_entry(b: &mut [u8], kind: Kind, date: Packed) -> Appended
+    ensures { λ r. ⌜ appendedAs r ≡ appendAnswer today (Gives (bytesOf kind date)) (now (b .entry)) ⌝ }
+    ensures { λ r. ⌜ now (b .exit) ≡ appendBuffer today (Gives (bytesOf kind date)) (now (b .entry)) ⌝ }
+{
+    let checked = check(b);
+    match checked {
+        Checked::Records(n) => {
+            if 4096 <= n {
+                return Appended::NoRoom;
+            }
+            let at = 5 + n * 5;
+            if b.len() < at + 5 {
+                return Appended::NoRoom;
+            }
+            put_entry(b, at, kind, date);
+            put_length(b, 1 + (n + 1) * 5);
+            Appended::At(n)
+        }
+        Checked::BadLength => Appended::BadLength,
+        Checked::BadVersion => Appended::BadVersion,
+        Checked::BadRecord(place) => Appended::BadRecord(place),
+    }
+}
+
+// Writes the record of a date after the last, and gives its place. A date not of the kind is refused before the book is looked at.
+pub fn append(b: &mut [u8], kind: Kind, date: Packed) -> Appended
+    ensures { λ r. ⌜ appendedAs r ≡ appendAnswer today (entryFor (kindCode (kindOf kind)) (date .year) (date .word)) (now (b .entry)) ⌝ }
+    ensures { λ r. ⌜ now (b .exit) ≡ appendBuffer today (entryFor (kindCode (kindOf kind)) (date .year) (date .word)) (now (b .entry)) ⌝ }
+{
+    if expanded::is_of_kind(kind, date) {
+        return append_entry(b, kind, date);
+    }
+    Appended::NotOfKind
 }

@@ -6,67 +6,19 @@ use mathlib.Core.List.{List, [], _∷_, _++_, append-assoc}
 use Prim.Native.Nat.{ℕ, suc, _+_, _*_, _-_, _^_, _≤_, _<_, zero-le}
 use native.Mathlib.Nat.{mul-le-mul-right}
 use native.Mathlib.Omega.{arith}
-use borrow.Author.Tests.{le-leb, lt-leb, le-ltb, lt-ltb, leb-true, ltb-true}
+use borrow.Author.Tests.{le-leb, leb-true, ltb-true}
 use lib.Dec.{leb, ltb, lit<}
 use lib.ListN.{length, take, drop, length-append, length-drop, take-append-drop}
-use lib.Seq.{sets, sets-eq, length-sets, length-take-le, take-add, take-at, drop-at, getD-at, drop-append-add}
+use lib.Seq.{length-take-le, take-at, drop-at, getD-at, drop-append-add}
 use Rattle.rules.specs.Words.{bigBytes}
-use Rattle.rules.specs.Refusals.{Answer, Gives, Refused, RefusedAt, _then_, demand, noRoom}
+use Rattle.rules.specs.Refusals.{Answer, Gives, Refused, RefusedAt, _then_, noRoom}
 use Rattle.rules.specs.Book.{Format, lengthSize, headSize, lengthSaid, versionOf, pieces, records, check, pick, recordAt, appendAnswer, appended, appendBuffer, newAnswer, newBuffer}
 use Rattle.rules.proofs.Rests.{here}
 use Rattle.rules.proofs.KindLaws.{left, right}
 use Rattle.rules.proofs.ByteLaws.{byte-count, number-back}
 use Rattle.rules.proofs.PieceLaws.{pieces-front, pieces-more, one-more, pick-old, pick-new}
-use Rattle.rules.proofs.BookLaws.{Sensible, Holds, then-then, demand-met, holds-found, Counted, counted}
-
--- ---- the answer, from the count
-
-module _ (format : Format) (s : List ℕ) where
-  -- the place of one record more, where n stand
-  abbrev pub placeAfter : ℕ → Answer ℕ
-  placeAfter n = demand (ltb n (format .most) && leb (lengthSaid s + lengthSize + format .size) (length s)) noRoom (Gives n)
-
-  pub append-by : (r : List ℕ) → appendAnswer format (Gives r) s ≡ (check format s then placeAfter)
-  unfolding appendAnswer check
-  append-by r = sym (then-then (records format s) (λ rs. Gives (length rs)) placeAfter)
-
-  pub full : (n : ℕ) → format .most ≤ n → placeAfter n ≡ Refused noRoom
-  full n h = rw (le-ltb n (format .most) h)
-
-  pub no-bytes-left : (n : ℕ) → n < format .most → length s < lengthSaid s + lengthSize + format .size → placeAfter n ≡ Refused noRoom
-  no-bytes-left n h g = rw (lt-ltb n (format .most) h, lt-leb (lengthSaid s + lengthSize + format .size) (length s) g)
-
-  pub room-left : (n : ℕ) → n < format .most → lengthSaid s + lengthSize + format .size ≤ length s → placeAfter n ≡ Gives n
-  room-left n h g = rw (lt-ltb n (format .most) h, le-leb (lengthSaid s + lengthSize + format .size) (length s) g)
-
--- ---- the buffer, as stores make it: the record after the book, then the length
-
-pub stores-are : (format : Format) (r s : List ℕ) → length r ≡ format .size → lengthSaid s + lengthSize + format .size ≤ length s →
-    sets (sets s (lengthSaid s + lengthSize) r) 0 (bigBytes lengthSize (lengthSaid s + format .size)) ≡ appended format r s
-unfolding appended
-stores-are format r s e h =
-    let L = lengthSaid s in
-    let m = L + format .size in
-    let a = bigBytes lengthSize m in
-    let l = sets s (L + lengthSize) r in
-    let c : length a ≡ lengthSize = byte-count lengthSize m in
-    let g : L + lengthSize + length r ≤ length s = omega arith in
-    let f : length l ≡ length s = length-sets s (L + lengthSize) r in
-    let body : take (L + lengthSize) s ≡ take lengthSize s ++ take L (drop lengthSize s) =
-    (let w : L + lengthSize ≡ lengthSize + L = omega arith in rw (w, take-add lengthSize L s)) in
-    let four : length (take lengthSize s) ≡ lengthSize = length-take-le lengthSize s (omega arith) in
-    let d = drop (L + lengthSize + length r) s in
-    let tail : drop lengthSize l ≡ take L (drop lengthSize s) ++ (r ++ d) =
-    ap (drop lengthSize) (sets-eq r s (L + lengthSize) g ∙ ap (λ (t : List ℕ). t ++ r ++ d) body
-    ∙ append-assoc (take lengthSize s ++ take L (drop lengthSize s)) r d
-    ∙ append-assoc (take lengthSize s) (take L (drop lengthSize s)) (r ++ d))
-    ∙ drop-at (take lengthSize s) (take L (drop lengthSize s) ++ (r ++ d)) lengthSize four in
-    sets-eq a l 0 (omega arith)
-    ∙ ap (λ (n : ℕ). a ++ drop n l) (let z : 0 + length a ≡ lengthSize = omega arith in z)
-    ∙ ap (λ (t : List ℕ). a ++ t) tail
-    ∙ sym (append-assoc a (take L (drop lengthSize s)) (r ++ d))
-    ∙ sym (append-assoc (a ++ take L (drop lengthSize s)) r d)
-    ∙ ap (λ (n : ℕ). a ++ take L (drop lengthSize s) ++ r ++ drop (L + lengthSize + n) s) e
+use Rattle.rules.proofs.AppendAnswers.{placeAfter, append-by}
+use Rattle.rules.proofs.BookLaws.{Sensible, Holds, demand-met, holds-found, Counted, counted}
 
 -- ---- after an append that gave a place
 

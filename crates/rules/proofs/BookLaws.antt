@@ -179,14 +179,16 @@ module _ (format : Format) (sensible : Sensible format) where
       inner (Refused code) p q = let z : _≡_ {A = ℕ} 0 1 = cc in absurd (omega arith)
       inner (RefusedAt code place) p q = let z : _≡_ {A = ℕ} 0 1 = cc in absurd (omega arith)
 
+  pub count-says : (s : List ℕ) (n : ℕ) → check format s ≡ Gives n → lengthSaid s ≡ 1 + n * k
+  count-says s n e = let c = counted s n e in rw (c .count) at (c .holds .says)
+
   -- a checked book has as many records as its length says
   pub checked : (s : List ℕ) → given (check format s) ≡ true → Counted s ((lengthSaid s - 1) / k)
   checked s e = inner (check format s) refl e
     where
       inner : (x : Answer ℕ) → check format s ≡ x → given x ≡ true → Counted s ((lengthSaid s - 1) / k)
       inner (Gives n) p q =
-          let c = counted s n p in
-          let h : lengthSaid s ≡ 1 + n * k = rw (c .count) at (c .holds .says) in
+          let h = count-says s n p in
           let u : lengthSaid s - 1 ≡ n * k = omega arith in
           let d : (lengthSaid s - 1) / k ≡ n = ap (λ (x : ℕ). x / k) u ∙ mul-div-cancel n (sensible .some) in
           counted s ((lengthSaid s - 1) / k) (p ∙ ap Gives (sym d))
@@ -209,7 +211,7 @@ module _ (format : Format) (sensible : Sensible format) where
     picked h =
         let m = c .count in
         let p : pick (pieces (length (c .list)) k (drop headSize s)) i ≡ Gives (take k (drop (i * k) (drop headSize s))) =
-            pick-piece (length (c .list)) k (drop headSize s) i (omega arith) in
+        pick-piece (length (c .list)) k (drop headSize s) i (omega arith) in
         rw (c .holds .cut, drop-drop (i * k) headSize s) at p
 
     pub record-here : i < n → recordAt format s i ≡ Gives recordHere

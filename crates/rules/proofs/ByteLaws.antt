@@ -40,3 +40,15 @@ four-bytes (a ∷ []) h = absurd (omega arith)
 four-bytes (a ∷ b ∷ []) h = absurd (omega arith)
 four-bytes (a ∷ b ∷ c ∷ []) h = absurd (omega arith)
 four-bytes (a ∷ b ∷ c ∷ d ∷ s) h = omega arith
+
+-- a number in two bytes and in four, where it fits them
+pub two-bytes-of : (n : ℕ) → n < 65536 → bigBytes 2 n ≡ n / 256 ∷ n % 256 ∷ []
+unfolding bigBytes
+two-bytes-of n h = let e : n / 256 % 256 ≡ n / 256 = omega arith in rw e
+
+pub four-bytes-of : (n : ℕ) → n < 4294967296 → bigBytes 4 n ≡ n / 16777216 ∷ n / 65536 % 256 ∷ n / 256 % 256 ∷ n % 256 ∷ []
+unfolding bigBytes
+four-bytes-of n h =
+    let a : n / 256 / 256 / 256 % 256 ≡ n / 16777216 = omega arith in
+    let b : n / 256 / 256 % 256 ≡ n / 65536 % 256 = omega arith in
+    rw (a, b)

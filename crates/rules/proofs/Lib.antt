@@ -9,6 +9,7 @@ pub mod PackLaws
 pub mod ByteLaws
 pub mod PieceLaws
 pub mod BookLaws
+pub mod AppendAnswers
 pub mod AppendLaws
 pub mod EntryLaws
 pub mod LengthLaws

@@ -1,12 +1,12 @@
 -- `book::entry` meets its contract: a checked book has as many records as its length says, and each is sound. Assumes nothing.
-use mathlib.Core.Path.{_≡_, sym, ap, subst, _∙_}
+use mathlib.Core.Path.{sym, ap, subst, _∙_}
 use native.Mathlib.Omega.{arith}
 use denote.Ref.{now}
 use lib.Dec.{T}
 use Prim.Native.Nat.{_-_, _/_, _≤_, _<_}
 use Rattle.rules.specs.Refusals.{given}
 use Rattle.rules.specs.Book.{today, lengthSaid, entryOf}
-use Rattle.rules.proofs.BookLaws.{Counted, checked, recordHere, ends-inside, record-here, record-none, sound-here}
+use Rattle.rules.proofs.BookLaws.{checked, recordHere, ends-inside, record-here, record-none, sound-here}
 use Rattle.rules.proofs.EntryLaws.{today-sensible, entry-by}
 use Rattle.book.specs.Views.{slotAs, inBits}
 use Rattle.book.proofs.Laws.{given-bits}
@@ -22,21 +22,9 @@ sub-if1 : tie.Need-sub-if1
 sub-if1 c =
     let h = checked today today-sensible (now (c .before .before .args .b)) (c .before .before .pre) .holds .says in omega arith
 
-mul-slot-at : tie.Need-mul-slot-at
-mul-slot-at c = search needs
-
-add-slot-at : tie.Need-add-slot-at
-add-slot-at c = search needs
-
 slot-at-requires : tie.Need-slot-at-requires
 slot-at-requires c κs =
     let s = now (c .before .before .before .args .b) in let i = c .before .before .before .args .place in let l : i < (lengthSaid s - 1) / 5 = omega arith in ends-inside today today-sensible s _ (checked today today-sensible s (c .before .before .before .pre)) i l
-
-enum-known-slot : tie.Need-enum-known-slot
-enum-known-slot c = search needs
-
-enum-told : tie.Need-enum-told
-enum-told c = search needs
 
 returns : tie.Need-returns
 returns c =
@@ -56,11 +44,11 @@ entry-spec =
     (tie.spec
     length-said-requires
     sub-if1
-    mul-slot-at
-    add-slot-at
+    (λ c. search needs)
+    (λ c. search needs)
     slot-at-requires
-    enum-known-slot
-    enum-told
+    (λ c. search needs)
+    (λ c. search needs)
     returns
     returns-2
     returns-3)

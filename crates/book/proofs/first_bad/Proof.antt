@@ -1,10 +1,8 @@
 -- `book::first_bad` meets its contract. The invariant: what is left to search has the answer. Assumes nothing.
 use mathlib.Core.Path.{_≡_, sym, _∙_}
-use mathlib.Core.List.{List}
-use Prim.Native.Nat.{ℕ, _-_, _≤_}
+use Prim.Native.Nat.{_-_, _≤_}
 use native.Mathlib.Nat.{sub-zero, zero-add}
 use native.Mathlib.Omega.{arith}
-use denote.Ref.{now}
 use lib.ListN.{drop}
 use Rattle.rules.specs.Book.{today, pieces, firstBad}
 use Rattle.rules.proofs.PieceLaws.{leftFrom, search-on, search-stops, search-ends}

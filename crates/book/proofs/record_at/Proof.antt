@@ -10,23 +10,8 @@ use borrow.Author.Needs.{needs}
 use Rattle.book.proofs.record_at.Statement.{statement}
 use Rattle.book.proofs.record_at.Tie as tie
 
-check-requires : tie.Need-check-requires
-check-requires c κs = search needs
-
-enum-told : tie.Need-enum-told
-enum-told c = search needs
-
 entry-requires : tie.Need-entry-requires
 entry-requires c κs = ap given (sym (c .before .before .check .ensures) ∙ ap checkedAs (c .enum-told .given .1))
-
-enum-told-2 : tie.Need-enum-told-2
-enum-told-2 c = search needs
-
-enum-told-3 : tie.Need-enum-told-3
-enum-told-3 c = search needs
-
-enum-known-checked : tie.Need-enum-known-checked
-enum-known-checked c = search needs
 
 returns : tie.Need-returns
 returns c = c .entry .ensures
@@ -47,12 +32,12 @@ pub record-at-spec : {M : Type 1} → statement M
 record-at-spec =
     tie.close
     (tie.spec
-    check-requires
-    enum-told
+    (λ c κs. search needs)
+    (λ c. search needs)
     entry-requires
-    enum-told-2
-    enum-told-3
-    enum-known-checked
+    (λ c. search needs)
+    (λ c. search needs)
+    (λ c. search needs)
     returns
     returns-2
     returns-3

@@ -1,7 +1,6 @@
 -- `book::slot_of` meets its contract: the kind of the code, and then whether the date is one of it. Assumes nothing.
-use mathlib.Core.Path.{_≡_, sym, ap, _∙_}
+use mathlib.Core.Path.{sym, ap, _∙_}
 use mir.Syntax.{w16}
-use mir.Val.{toZ, ofZ}
 use Rattle.sign.proofs.Bits.{held}
 use Rattle.rules.specs.Book.{yearOfTwos}
 use Rattle.book.specs.Views.{coded}

@@ -1,18 +1,21 @@
--- The five bytes of a record: where they stand, and what they are by the tests that the code makes. Assumes nothing.
-use mathlib.Core.Path.{_≡_, refl, _∙_}
+-- The five bytes of a record: where they stand, and what they are by the tests that the code makes; and the records of a checked book.
+-- Assumes nothing.
+use mathlib.Core.Path.{_≡_, refl, sym, ap, subst, _∙_}
 use mathlib.Core.Bool.{true, false}
 use mathlib.Core.List.{List, [], _∷_}
-use Prim.Native.Nat.{ℕ, _+_, _*_, _≤_}
+use Prim.Native.Nat.{ℕ, _+_, _*_, _-_, _/_, _≤_, _<_}
 use native.Mathlib.Omega.{arith}
+use lib.Dec.{T}
 use lib.IntN.{ℤ}
 use lib.ListN.{length, getD, take, drop}
 use Rattle.rules.specs.Words.{bigEndian, bigBytes}
-use Rattle.rules.specs.Refusals.{Answer, Gives, Refused, RefusedAt, given, notOfKind}
+use Rattle.rules.specs.Refusals.{Answer, Gives, Refused, RefusedAt, given, notOfKind, noRecord}
 use Rattle.rules.specs.Kinds as K
 use Rattle.rules.specs.Kinds.{handedIn}
-use Rattle.rules.specs.Book.{kindCode, kindOfCode, yearOfTwos, entryBytes, Entry, entryOf, entryFor}
-use Rattle.rules.proofs.Rests.{here}
-use Rattle.rules.proofs.EntryLaws.{entry-for}
+use Rattle.rules.specs.Book.{kindCode, kindOfCode, yearOfTwos, entryBytes, Entry, entryOf, lengthSaid, check, today, entryAt, entryFor}
+use Rattle.rules.proofs.Rests as R
+use Rattle.rules.proofs.BookLaws.{Counted, checked, ends-inside, record-here, record-none, sound-here}
+use Rattle.rules.proofs.EntryLaws.{entry-for, today-sensible, entry-by}
 use Rattle.expanded.specs.declared.Kind.{Kind}
 use Rattle.expanded.specs.declared.Packed.{Packed}
 use Rattle.expanded.specs.Views.{kindOf}
@@ -27,14 +30,14 @@ five-at s at h =
     let q : at + 2 + 1 ≡ at + 3 = omega arith in
     let r : at + 3 + 1 ≡ at + 4 = omega arith in
     rw (
-      here s at (omega arith),
-      here s (at + 1) (omega arith),
+      R.here s at (omega arith),
+      R.here s (at + 1) (omega arith),
       p,
-      here s (at + 2) (omega arith),
+      R.here s (at + 2) (omega arith),
       q,
-      here s (at + 3) (omega arith),
+      R.here s (at + 3) (omega arith),
       r,
-      here s (at + 4) (omega arith),
+      R.here s (at + 4) (omega arith),
     )
 
 pub given-bits : (x : Answer Entry) → given (inBits x) ≡ given x
@@ -78,3 +81,33 @@ module _ (k : Kind) (d : Packed) where
 
   pub entry-not : given (handedIn (kindOf k) (d .year) (d .word)) ≡ false → entryFor (kindCode (kindOf k)) (d .year) (d .word) ≡ Refused notOfKind
   entry-not g = entry-for (kindOf k) (d .year) (d .word) ∙ rw (handed-by (kindOf k) (d .year) (d .word) g)
+
+-- ---- a checked book
+
+module _ (s : List ℕ) (p : given (check today s) ≡ true) where
+  abbrev n : ℕ
+  n = (lengthSaid s - 1) / 5
+
+  has : Counted today today-sensible s n
+  has = checked today today-sensible s p
+
+  pub head-stands : (5 ≤ length s) × (1 ≤ lengthSaid s)
+  head-stands = let h = has .holds .fits in let g = has .holds .says in (omega arith, omega arith)
+
+  module _ (i : ℕ) where
+    pub entry-past : n ≤ i → inBits (entryAt s i) ≡ Refused noRecord
+    entry-past l = ap inBits (entry-by s i (record-none today today-sensible s n has i l))
+
+    -- the record at a place of it
+    module _ (l : i < n) where
+      abbrev here : List ℕ
+      here = take 5 (drop (5 + i * 5) s)
+
+      pub inside : 5 + i * 5 + 5 ≤ length s
+      inside = ends-inside today today-sensible s n has i l
+
+      pub entry-here : inBits (entryAt s i) ≡ inBits (entryOf here)
+      entry-here = ap inBits (entry-by s i (record-here today today-sensible s n has i l))
+
+      pub no-bad-one : Refused notOfKind ≡ inBits (entryOf here) → ⊥
+      no-bad-one e = subst T (sym (ap given e ∙ given-bits (entryOf here) ∙ sound-here today today-sensible s n has i l)) tt

@@ -8,12 +8,14 @@ use Rattle.book.proofs.append.Tie as tie
 
 returns : tie.Need-returns
 returns c =
-    rw (entry-given (c .before .before .before .before .before .before .before .args .kind) (c .before .before .before .before .before .before .before .args .date) (sym (c .before .before .before .before .before .is-of-kind .ensures) ∙ c .before .before .before .before .if1 .taken)) (c .before .before .append-entry .ensures)
+    let a = c .before .before .before .before .before .before .before .args in
+    rw (entry-given (a .kind) (a .date) (sym (c .before .before .before .before .before .is-of-kind .ensures) ∙ c .before .before .before .before .if1 .taken)) (c .before .before .append-entry .ensures)
 
 returns-2 : tie.Need-returns-2
 unfolding appendAnswer appendBuffer
 returns-2 c =
-    rw (entry-not (c .before .before .before .args .kind) (c .before .before .before .args .date) (sym (c .before .is-of-kind .ensures) ∙ c .if1 .left)) (refl, refl)
+    let a = c .before .before .before .args in
+    rw (entry-not (a .kind) (a .date) (sym (c .before .is-of-kind .ensures) ∙ c .if1 .left)) (refl, refl)
 
 pub append-spec : {M : Type 1} → statement M
 append-spec =

@@ -16,31 +16,40 @@ returns c = let s = now (c .before .before .args .b) in sym (check-by today s (s
 
 returns-2 : tie.Need-returns-2
 returns-2 c =
-    let s = now (c .before .before .before .before .args .b) in sym (check-by today s (none-said today s (c .before .length-said .ensures) (omega arith) (omega arith)))
+    let s = now (c .before .before .before .before .args .b) in
+    sym (check-by today s (none-said today s (c .before .length-said .ensures) (omega arith) (omega arith)))
 
 returns-3 : tie.Need-returns-3
 returns-3 c =
-    let s = now (c .before .before .before .before .before .args .b) in sym (check-by today s (over today s (c .before .before .length-said .ensures) (omega arith) (omega arith) (omega arith)))
+    let s = now (c .before .before .before .before .before .args .b) in
+    sym (check-by today s (over today s (c .before .before .length-said .ensures) (omega arith) (omega arith) (omega arith)))
 
 returns-4 : tie.Need-returns-4
 returns-4 c =
-    let s = now (c .before .before .before .before .before .before .args .b) in sym (check-by today s (past-end today s (c .before .before .before .length-said .ensures) (omega arith) (omega arith) (omega arith) (omega arith)))
+    let s = now (c .before .before .before .before .before .before .args .b) in
+    sym (check-by today s (past-end today s (c .before .before .before .length-said .ensures) (omega arith) (omega arith) (omega arith) (omega arith)))
 
 returns-5 : tie.Need-returns-5
 returns-5 c =
-    let s = now (c .before .before .before .before .before .before .before .before .args .b) in sym (check-by today s (version-not today s (c .before .before .before .before .before .length-said .ensures) (omega arith) (omega arith) (omega arith) (omega arith) (c .if5 .taken)))
+    let s = now (c .before .before .before .before .before .before .before .before .args .b) in
+    sym (check-by today s (version-not today s (c .before .before .before .before .before .length-said .ensures) (omega arith) (omega arith) (omega arith) (omega arith) (c .if5 .taken)))
 
 returns-6 : tie.Need-returns-6
 returns-6 c =
-    let s = now (c .before .before .before .before .before .before .before .before .before .args .b) in sym (check-by today s (uneven today s (c .before .before .before .before .before .before .length-said .ensures) (omega arith) (omega arith) (omega arith) (omega arith) (omega arith) (c .if6 .taken)))
+    let s = now (c .before .before .before .before .before .before .before .before .before .args .b) in
+    sym (check-by today s (uneven today s (c .before .before .before .before .before .before .length-said .ensures) (omega arith) (omega arith) (omega arith) (omega arith) (omega arith) (c .if6 .taken)))
 
 returns-7 : tie.Need-returns-7
 returns-7 c =
-    let s = now (c .before .before .before .before .before .before .before .before .before .before .before .args .b) in sym (check-by today s (one-bad today s (c .before .before .before .before .before .before .before .before .length-said .ensures) (omega arith) (omega arith) (omega arith) (omega arith) (omega arith) (omega arith) (c .before .first-bad .ensures) (omega arith)))
+    let s = now (c .before .before .before .before .before .before .before .before .before .before .before .args .b) in
+    let said = c .before .before .before .before .before .before .before .before .length-said .ensures in
+    sym (check-by today s (one-bad today s said (omega arith) (omega arith) (omega arith) (omega arith) (omega arith) (omega arith) (c .before .first-bad .ensures) (omega arith)))
 
 returns-8 : tie.Need-returns-8
 returns-8 c =
-    let s = now (c .before .before .before .before .before .before .before .before .before .before .before .args .b) in sym (check-by today s (all-good today s (c .before .before .before .before .before .before .before .before .length-said .ensures) (omega arith) (omega arith) (omega arith) (omega arith) (omega arith) (omega arith) (c .before .first-bad .ensures) (omega arith)) ∙ ap Gives (piece-count _ 5 (drop 5 s)))
+    let s = now (c .before .before .before .before .before .before .before .before .before .before .before .args .b) in
+    let said = c .before .before .before .before .before .before .before .before .length-said .ensures in
+    sym (check-by today s (all-good today s said (omega arith) (omega arith) (omega arith) (omega arith) (omega arith) (omega arith) (c .before .first-bad .ensures) (omega arith)) ∙ ap Gives (piece-count _ 5 (drop 5 s)))
 
 pub check-spec : {M : Type 1} → statement M
 check-spec =

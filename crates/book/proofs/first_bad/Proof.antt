@@ -20,15 +20,20 @@ loop-holds c = (omega arith, rw sub-zero (zero-add _))
 
 loop-again : tie.Need-loop-again Inv-loop μ-loop
 loop-again c =
-    (omega arith, sym (search-on (today .sound) 5 5 _ _ (c .before .before .before .loop .i) (c .before .before .loop-test .taken) (sym (c .before .sound-at .ensures) ∙ c .if1 .taken)) ∙ c .before .before .before .loop .inv .1)
+    let l = c .before .before .before .loop in
+    let sound = sym (c .before .sound-at .ensures) ∙ c .if1 .taken in
+    (omega arith, sym (search-on (today .sound) 5 5 _ _ (l .i) (c .before .before .loop-test .taken) sound) ∙ l .inv .1)
 
 returns : tie.Need-returns Inv-loop μ-loop
 returns c =
-    sym (search-stops (today .sound) 5 5 _ _ (c .before .before .before .loop .i) (c .before .before .loop-test .taken) (sym (c .before .sound-at .ensures) ∙ c .if1 .left)) ∙ c .before .before .before .loop .inv .1
+    let l = c .before .before .before .loop in
+    let sound = sym (c .before .sound-at .ensures) ∙ c .if1 .left in
+    sym (search-stops (today .sound) 5 5 _ _ (l .i) (c .before .before .loop-test .taken) sound) ∙ l .inv .1
 
 returns-2 : tie.Need-returns-2 Inv-loop μ-loop
 returns-2 c =
-    let e : c .before .loop .i ≡ c .before .before .before .args .n = omega arith in sym e ∙ sym (search-ends (today .sound) 5 5 _ _ _ (c .loop-test .left)) ∙ c .before .loop .inv .1
+    let e : c .before .loop .i ≡ c .before .before .before .args .n = omega arith in
+    sym e ∙ sym (search-ends (today .sound) 5 5 _ _ _ (c .loop-test .left)) ∙ c .before .loop .inv .1
 
 pub first-bad-spec : {M : Type 1} → statement M
 first-bad-spec =

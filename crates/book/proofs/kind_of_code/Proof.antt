@@ -32,7 +32,8 @@ returns-6 c = sym (ap kindOfCode (c .match .keys6))
 returns-7 : tie.Need-returns-7
 unfolding kindOfCode
 returns-7 c =
-    let n = c .match .rest in rw (ne-eqb _ 1 (n .0 .0 .0 .0 .0 .1), ne-eqb _ 2 (n .0 .0 .0 .0 .1), ne-eqb _ 3 (n .0 .0 .0 .1), ne-eqb _ 4 (n .0 .0 .1), ne-eqb _ 5 (n .0 .1), ne-eqb _ 6 (n .1))
+    let n = c .match .rest in
+    rw (ne-eqb _ 1 (n .0 .0 .0 .0 .0 .1), ne-eqb _ 2 (n .0 .0 .0 .0 .1), ne-eqb _ 3 (n .0 .0 .0 .1), ne-eqb _ 4 (n .0 .0 .1), ne-eqb _ 5 (n .0 .1), ne-eqb _ 6 (n .1))
 
 pub kind-of-code-spec : {M : Type 1} → statement M
 kind-of-code-spec =

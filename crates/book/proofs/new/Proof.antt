@@ -22,7 +22,9 @@ same-length c = rw (c .before .before .put-length .ensures, length-sets, length-
 
 returns-2 : tie.Need-returns-2
 returns-2 c =
-    (new-given (now (c .before .before .before .before .before .before .args .b)) (c .before .before .before .before .if1 .left), c .before .before .put-length .ensures ∙ new-stores today (now (c .before .before .before .before .before .before .args .b)) (c .before .before .before .before .if1 .left))
+    let s = now (c .before .before .before .before .before .before .args .b) in
+    let room = c .before .before .before .before .if1 .left in
+    (new-given s room, c .before .before .put-length .ensures ∙ new-stores today s room)
 
 pub new-spec : {M : Type 1} → statement M
 new-spec = tie.close (tie.spec returns (λ c. search needs) put-length-requires same-length returns-2)

@@ -14,7 +14,11 @@ use Rattle.book.proofs.put_entry.Tie as tie
 
 returns : tie.Need-returns
 returns c =
-    let d = c .before .before .before .before .args .date in let year : c .twos-complement .result ≡ twosComplement (d .year) = c .twos-complement .ensures ∙ ap twosComplement (held w16 {z = d .year} (c .before .struct-told .given .0 .1)) in let small : c .twos-complement .result < 65536 = omega arith in let word : d .word < 65536 = omega arith in rw (← year, two-bytes-of (c .twos-complement .result) small, two-bytes-of (d .word) word, ← c .before .before .kind-code .ensures) (simp unary-clauses)
+    let d = c .before .before .before .before .args .date in
+    let year : c .twos-complement .result ≡ twosComplement (d .year) = c .twos-complement .ensures ∙ ap twosComplement (held w16 {z = d .year} (c .before .struct-told .given .0 .1)) in
+    let small : c .twos-complement .result < 65536 = omega arith in
+    let word : d .word < 65536 = omega arith in
+    rw (← year, two-bytes-of (c .twos-complement .result) small, two-bytes-of (d .word) word, ← c .before .before .kind-code .ensures) (simp unary-clauses)
 
 pub put-entry-spec : {M : Type 1} → statement M
 put-entry-spec =

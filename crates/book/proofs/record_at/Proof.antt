@@ -18,15 +18,21 @@ returns c = c .entry .ensures
 
 returns-2 : tie.Need-returns-2
 returns-2 c =
-    let s = now (c .before .before .before .before .args .b) in let i = c .before .before .before .before .args .place in ap inBits (sym (entry-by s i (record-refused today s _ i (sym (c .before .before .check .ensures) ∙ ap checkedAs (c .enum-told2 .given .1)))))
+    let s = now (c .before .before .before .before .args .b) in
+    let i = c .before .before .before .before .args .place in
+    ap inBits (sym (entry-by s i (record-refused today s _ i (sym (c .before .before .check .ensures) ∙ ap checkedAs (c .enum-told2 .given .1)))))
 
 returns-3 : tie.Need-returns-3
 returns-3 c =
-    let s = now (c .before .before .before .before .args .b) in let i = c .before .before .before .before .args .place in ap inBits (sym (entry-by s i (record-refused today s _ i (sym (c .before .before .check .ensures) ∙ ap checkedAs (c .enum-told3 .given .1)))))
+    let s = now (c .before .before .before .before .args .b) in
+    let i = c .before .before .before .before .args .place in
+    ap inBits (sym (entry-by s i (record-refused today s _ i (sym (c .before .before .check .ensures) ∙ ap checkedAs (c .enum-told3 .given .1)))))
 
 returns-4 : tie.Need-returns-4
 returns-4 c =
-    let s = now (c .before .before .before .before .before .args .b) in let i = c .before .before .before .before .before .args .place in ap inBits (sym (entry-by s i (record-bad today s _ _ i (sym (c .before .before .before .check .ensures) ∙ ap checkedAs (c .before .checked .given .1)))))
+    let s = now (c .before .before .before .before .before .args .b) in
+    let i = c .before .before .before .before .before .args .place in
+    ap inBits (sym (entry-by s i (record-bad today s _ _ i (sym (c .before .before .before .check .ensures) ∙ ap checkedAs (c .before .checked .given .1)))))
 
 pub record-at-spec : {M : Type 1} → statement M
 record-at-spec =

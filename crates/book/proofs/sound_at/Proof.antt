@@ -12,11 +12,13 @@ use Rattle.book.proofs.sound_at.Tie as tie
 
 returns : tie.Need-returns
 returns c =
-    ap given (ap slotAs (sym (c .enum-told .given .1)) ∙ c .before .before .slot-at .ensures) ∙ given-bits (entryOf (take 5 (drop (c .before .before .before .before .args .at) (now (c .before .before .before .before .args .b)))))
+    let a = c .before .before .before .before .args in
+    ap given (ap slotAs (sym (c .enum-told .given .1)) ∙ c .before .before .slot-at .ensures) ∙ given-bits (entryOf (take 5 (drop (a .at) (now (a .b)))))
 
 returns-2 : tie.Need-returns-2
 returns-2 c =
-    ap given (ap slotAs (sym (c .enum-told2 .given .1)) ∙ c .before .before .slot-at .ensures) ∙ given-bits (entryOf (take 5 (drop (c .before .before .before .before .args .at) (now (c .before .before .before .before .args .b)))))
+    let a = c .before .before .before .before .args in
+    ap given (ap slotAs (sym (c .enum-told2 .given .1)) ∙ c .before .before .slot-at .ensures) ∙ given-bits (entryOf (take 5 (drop (a .at) (now (a .b)))))
 
 pub sound-at-spec : {M : Type 1} → statement M
 sound-at-spec = tie.close (tie.spec (λ c κs. search needs) (λ c. search needs) (λ c. search needs) returns returns-2)

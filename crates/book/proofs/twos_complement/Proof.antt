@@ -12,11 +12,13 @@ got c = rw (toZ-ofZ (c .before .fits .year)) at (c .halves16 .ensures)
 
 returns : tie.Need-returns
 returns c =
-    let g = got (c .before .before .before) in omega (arith, twos-below (c .before .before .before .before .args .year) (omega arith))
+    let g = got (c .before .before .before) in
+    omega (arith, twos-below (c .before .before .before .before .args .year) (omega arith))
 
 returns-2 : tie.Need-returns-2
 returns-2 c =
-    let g = got (c .before .before .before) in omega (arith, twos-above (c .before .before .before .before .args .year) (omega arith))
+    let g = got (c .before .before .before) in
+    omega (arith, twos-above (c .before .before .before .before .args .year) (omega arith))
 
 pub twos-complement-spec : {M : Type 1} → statement M
 twos-complement-spec =

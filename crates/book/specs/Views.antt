@@ -16,10 +16,10 @@ use Rattle.book.specs.declared.Appended.{Appended}
 use Rattle.book.specs.declared.Appended.the-variants as A
 use Rattle.book.specs.declared.Started.{Started}
 use Rattle.book.specs.declared.Started.the-variants as N
-use Rattle.book.specs.declared.Coded.{Coded}
-use Rattle.book.specs.declared.Coded.the-variants as D
-use Rattle.book.specs.declared.Slot.{Slot}
-use Rattle.book.specs.declared.Slot.the-variants as S
+use Rattle.book.specs.declared.slots.Coded.{Coded}
+use Rattle.book.specs.declared.slots.Coded.the-variants as D
+use Rattle.book.specs.declared.slots.Slot.{Slot}
+use Rattle.book.specs.declared.slots.Slot.the-variants as S
 
 -- a record's kind, and its date as it is stored
 pub record Bits : Type 0 where

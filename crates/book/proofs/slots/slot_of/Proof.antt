@@ -1,4 +1,4 @@
--- `book::slot_of` meets its contract: the kind of the code, and then whether the date is one of it. Assumes nothing.
+-- `book::slots::slot_of` meets its contract: the kind of the code, and then whether the date is one of it. Assumes nothing.
 use mathlib.Core.Path.{_≡_, sym, ap, _∙_}
 use Prim.Native.Nat.{_+_, _*_}
 use mir.Syntax.{w16}
@@ -8,8 +8,8 @@ use Rattle.rules.specs.Book.{yearOfTwos}
 use Rattle.book.specs.Views.{coded}
 use Rattle.book.proofs.Laws.{no-kind, of-kind, not-of-kind}
 use borrow.Author.Needs.{needs}
-use Rattle.book.proofs.slot_of.Statement.{statement}
-use Rattle.book.proofs.slot_of.Tie as tie
+use Rattle.book.proofs.slots.slot_of.Statement.{statement}
+use Rattle.book.proofs.slots.slot_of.Tie as tie
 
 -- the year is that of its two bytes
 year : (c : tie.After-year-of-twos) →

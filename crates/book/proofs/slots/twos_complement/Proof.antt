@@ -1,11 +1,11 @@
--- `book::twos_complement` meets its contract, by the year's sign. Assumes nothing.
+-- `book::slots::twos_complement` meets its contract, by the year's sign. Assumes nothing.
 use native.Mathlib.Omega.{arith}
 use mir.Facts.{toZ-ofZ}
 use Rattle.sign.specs.Halves.{Halved}
 use Rattle.rules.proofs.EntryLaws.{twos-above, twos-below}
 use borrow.Author.Needs.{needs}
-use Rattle.book.proofs.twos_complement.Statement.{statement}
-use Rattle.book.proofs.twos_complement.Tie as tie
+use Rattle.book.proofs.slots.twos_complement.Statement.{statement}
+use Rattle.book.proofs.slots.twos_complement.Tie as tie
 
 got : (c : tie.After-halves16) → Halved 32767 (c .before .args .year) (c .halves16 .result .up) (c .halves16 .result .dn)
 got c = rw (toZ-ofZ (c .before .fits .year)) at (c .halves16 .ensures)

@@ -1,4 +1,4 @@
--- `book::sound_at` meets its contract: a record is sound where a date is read. Assumes nothing.
+-- `book::slots::sound_at` meets its contract: a record is sound where a date is read. Assumes nothing.
 use mathlib.Core.Path.{sym, ap, _∙_}
 use denote.Ref.{now}
 use lib.ListN.{take, drop}
@@ -7,8 +7,8 @@ use Rattle.rules.specs.Book.{entryOf}
 use Rattle.book.specs.Views.{slotAs}
 use Rattle.book.proofs.Laws.{given-bits}
 use borrow.Author.Needs.{needs}
-use Rattle.book.proofs.sound_at.Statement.{statement}
-use Rattle.book.proofs.sound_at.Tie as tie
+use Rattle.book.proofs.slots.sound_at.Statement.{statement}
+use Rattle.book.proofs.slots.sound_at.Tie as tie
 
 returns : tie.Need-returns
 returns c =

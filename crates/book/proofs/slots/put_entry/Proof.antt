@@ -1,4 +1,4 @@
--- `book::put_entry` meets its contract: five stores. Assumes nothing.
+-- `book::slots::put_entry` meets its contract: five stores. Assumes nothing.
 use mathlib.Core.Path.{_≡_, ap, _∙_}
 use Prim.Native.Nat.{_<_}
 use native.Mathlib.Numerals.{unary-clauses}
@@ -9,8 +9,8 @@ use Rattle.sign.proofs.Bits.{held}
 use Rattle.rules.specs.Book.{twosComplement}
 use Rattle.rules.proofs.ByteLaws.{two-bytes-of}
 use borrow.Author.Needs.{needs}
-use Rattle.book.proofs.put_entry.Statement.{statement}
-use Rattle.book.proofs.put_entry.Tie as tie
+use Rattle.book.proofs.slots.put_entry.Statement.{statement}
+use Rattle.book.proofs.slots.put_entry.Tie as tie
 
 returns : tie.Need-returns
 returns c =

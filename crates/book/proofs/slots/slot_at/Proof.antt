@@ -1,8 +1,8 @@
--- `book::slot_at` meets its contract: the five bytes are those that stand there. Assumes nothing.
+-- `book::slots::slot_at` meets its contract: the five bytes are those that stand there. Assumes nothing.
 use Rattle.book.proofs.Laws.{five-at}
 use borrow.Author.Needs.{needs}
-use Rattle.book.proofs.slot_at.Statement.{statement}
-use Rattle.book.proofs.slot_at.Tie as tie
+use Rattle.book.proofs.slots.slot_at.Statement.{statement}
+use Rattle.book.proofs.slots.slot_at.Tie as tie
 
 returns : tie.Need-returns
 returns c =

@@ -7,6 +7,12 @@ pub mod CalendarLaws
 pub mod KindLaws
 pub mod OrderLaws
 pub mod PackLaws
+pub mod ByteLaws
+pub mod PieceLaws
+pub mod BookLaws
+pub mod AppendAnswers
+pub mod AppendLaws
+pub mod EntryLaws
 pub mod LengthLaws
 pub mod DigitLaws
 pub mod TextBack

@@ -1,0 +1,64 @@
+-- Each answer is determined: two that a contract allows are equal, since the view that the contract names can be read back.
+-- Assumes nothing.
+use mathlib.Core.Path.{_≡_, refl, ap}
+use mathlib.Core.Bool.{cond}
+use Prim.Native.Nat.{ℕ}
+use lib.Dec.{eqb}
+use Rattle.rules.specs.Refusals.{Answer, Gives, Refused, RefusedAt, notOfKind, badLength, badVersion}
+use Rattle.rules.specs.Kinds as K
+use Rattle.rules.proofs.ReadBack.{Determines, determined, backOne}
+use Rattle.expanded.specs.declared.Kind.{Kind}
+use Rattle.expanded.specs.declared.Kind.the-variants as E
+use Rattle.expanded.specs.Views.{kindOf}
+use Rattle.expanded.proofs.Determined.{packedOf}
+use Rattle.book.specs.declared.Checked.the-variants as C
+use Rattle.book.specs.declared.Found.{Found}
+use Rattle.book.specs.declared.Found.the-variants as F
+use Rattle.book.specs.declared.Appended.the-variants as A
+use Rattle.book.specs.declared.Started.the-variants as N
+use Rattle.book.specs.Views.{Bits, checkedAs, foundAs, appendedAs, startedAs}
+
+-- a value, the two refusals of a book's head, any other refusal, or the place of a bad record
+abbrev backBook : {A T : Type 0} → (A → T) → T → T → (ℕ → T) → (ℕ → T) → Answer A → T
+backBook value length version other bad (Gives a) = value a
+backBook value length version other bad (Refused n) = cond (eqb n badLength) length (cond (eqb n badVersion) version (other n))
+backBook value length version other bad (RefusedAt n place) = bad place
+
+pub started-determined : Determines startedAs
+started-determined = determined startedAs (backOne (λ n. N.Written) N.NoRoom) (λ r. elim r [ N.Written ↦ refl | N.NoRoom ↦ refl ])
+
+pub checked-determined : Determines checkedAs
+checked-determined =
+    determined checkedAs (backBook C.Records C.BadLength C.BadVersion (λ n. C.BadVersion) C.BadRecord)
+    (λ r. elim r [ C.Records n ↦ refl | C.BadLength ↦ refl | C.BadVersion ↦ refl | C.BadRecord place ↦ refl ])
+
+pub appended-determined : Determines appendedAs
+appended-determined =
+    determined appendedAs (backBook A.At A.BadLength A.BadVersion (λ n. cond (eqb n notOfKind) A.NotOfKind A.NoRoom) A.BadRecord)
+    (λ r. elim r [ A.At n ↦ refl | A.NotOfKind ↦ refl | A.BadLength ↦ refl | A.BadVersion ↦ refl | A.BadRecord place ↦ refl | A.NoRoom ↦ refl ])
+
+-- ---- a record found, by its kind and its bits
+
+abbrev kindBack : K.Kind → Kind
+kindBack K.kR = E.Raw
+kindBack K.kD = E.Date
+kindBack K.kH = E.Hour
+kindBack K.kU = E.Uniform
+kindBack K.kE = E.Eu5
+kindBack K.kV = E.Vic3
+
+kind-back : (k : Kind) → kindBack (kindOf k) ≡ k
+kind-back k = elim k [ E.Raw ↦ refl | E.Date ↦ refl | E.Hour ↦ refl | E.Uniform ↦ refl | E.Eu5 ↦ refl | E.Vic3 ↦ refl ]
+
+abbrev foundBack : Answer Bits → Found
+foundBack = backBook (λ (b : Bits). F.Record (kindBack (b .kind)) (packedOf (b .date))) F.BadLength F.BadVersion (λ n. F.NoRecord) F.BadRecord
+
+found-back : (r : Found) → foundBack (foundAs r) ≡ r
+found-back (F.Record k d) = ap (λ (j : Kind). F.Record j d) (kind-back k)
+found-back F.BadLength = refl
+found-back F.BadVersion = refl
+found-back (F.BadRecord place) = refl
+found-back F.NoRecord = refl
+
+pub found-determined : Determines foundAs
+found-determined = determined foundAs foundBack found-back

@@ -1,0 +1,68 @@
+-- The code's answers as those of `rules`. Assumes nothing.
+use Prim.Native.Nat.{ℕ}
+use mathlib.Core.List.{List, _∷_, _++_}
+use Rattle.rules.specs.Words.{bigBytes}
+use Rattle.rules.specs.Refusals.{Answer, Gives, Refused, RefusedAt, _then_, notOfKind, badLength, badVersion, badRecord, noRoom, noRecord}
+use Rattle.rules.specs.Kinds as K
+use Rattle.rules.specs.Book as B
+use Rattle.expanded.specs.declared.Kind.{Kind}
+use Rattle.expanded.specs.declared.Packed.{Packed}
+use Rattle.expanded.specs.Views.{kindOf, bitsOf}
+use Rattle.book.specs.declared.Checked.{Checked}
+use Rattle.book.specs.declared.Checked.the-variants as C
+use Rattle.book.specs.declared.Found.{Found}
+use Rattle.book.specs.declared.Found.the-variants as F
+use Rattle.book.specs.declared.Appended.{Appended}
+use Rattle.book.specs.declared.Appended.the-variants as A
+use Rattle.book.specs.declared.Started.{Started}
+use Rattle.book.specs.declared.Started.the-variants as N
+use Rattle.book.specs.declared.slots.Coded.{Coded}
+use Rattle.book.specs.declared.slots.Coded.the-variants as D
+use Rattle.book.specs.declared.slots.Slot.{Slot}
+use Rattle.book.specs.declared.slots.Slot.the-variants as S
+
+-- a record's kind, and its date as it is stored
+pub record Bits : Type 0 where
+  pub kind : K.Kind
+  pub date : K.Stored
+
+abbrev pub inBits : Answer B.Entry → Answer Bits
+inBits a = a then λ e. Gives (record { kind = e .kind; date = K.stored (e .date) })
+
+-- the five bytes of a date's record, from its bits
+abbrev pub bytesOf : Kind → Packed → List ℕ
+bytesOf k d = B.kindCode (kindOf k) ∷ bigBytes 2 (B.twosComplement (d .year)) ++ bigBytes 2 (d .word)
+
+abbrev pub coded : Coded → Answer K.Kind
+coded (D.Kind k) = Gives (kindOf k)
+coded D.None = Refused notOfKind
+
+abbrev pub slotAs : Slot → Answer Bits
+slotAs (S.Record k d) = Gives (record { kind = kindOf k; date = bitsOf d })
+slotAs S.None = Refused notOfKind
+
+abbrev pub checkedAs : Checked → Answer ℕ
+checkedAs (C.Records n) = Gives n
+checkedAs C.BadLength = Refused badLength
+checkedAs C.BadVersion = Refused badVersion
+checkedAs (C.BadRecord place) = RefusedAt badRecord place
+
+abbrev pub foundAs : Found → Answer Bits
+foundAs (F.Record k d) = Gives (record { kind = kindOf k; date = bitsOf d })
+foundAs F.BadLength = Refused badLength
+foundAs F.BadVersion = Refused badVersion
+foundAs (F.BadRecord place) = RefusedAt badRecord place
+foundAs F.NoRecord = Refused noRecord
+
+abbrev pub appendedAs : Appended → Answer ℕ
+appendedAs (A.At n) = Gives n
+appendedAs A.NotOfKind = Refused notOfKind
+appendedAs A.BadLength = Refused badLength
+appendedAs A.BadVersion = Refused badVersion
+appendedAs (A.BadRecord place) = RefusedAt badRecord place
+appendedAs A.NoRoom = Refused noRoom
+
+-- an empty book has no record
+abbrev pub startedAs : Started → Answer ℕ
+startedAs N.Written = Gives 0
+startedAs N.NoRoom = Refused noRoom

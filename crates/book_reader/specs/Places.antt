@@ -1,0 +1,9 @@
+-- The place after a place of a book. Assumes nothing.
+use Prim.Native.Nat.{ℕ, _+_}
+use mathlib.Core.Bool.{cond}
+use lib.Dec.{ltb}
+use Rattle.rules.specs.Book.{today}
+
+-- the next one; from the most records of a book on, where no place has a record, the same
+abbrev pub placeAfter : ℕ → ℕ
+placeAfter place = cond (ltb place (today .most)) (place + 1) place

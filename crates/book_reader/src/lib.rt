@@ -42,7 +42,10 @@ pub fn place_after(place: usize) -> usize
 pub fn after<'a>(reader: BookReader<'a>) -> BookReader<'a>
     ensures { λ r. ⌜ (r .book ≡ reader .entry .book) × (r .place ≡ placeAfter (reader .entry .place)) ⌝ }
 {
-    BookReader { book: reader.book, place: place_after(reader.place) }
+    BookReader {
+        book: reader.book,
+        place: place_after(reader.place),
+    }
 }
 
 // What a reader at the place gives next. Its parameters are a slice and a number, so that callers need no proof by hand.

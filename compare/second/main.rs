@@ -1,0 +1,31 @@
+//! A second reading of document 01, for what the original lacks. It shares nothing with the port.
+//!
+//!     second exchanges < spellings.txt     the same dates with their exchange texts
+
+mod exchange;
+mod kinds;
+
+use std::io::{self, Read, Write};
+
+fn main() {
+    let command = std::env::args().nth(1).unwrap_or_default();
+    let output = match command.as_str() {
+        "exchanges" => exchange::rows(&input_text()).into_bytes(),
+        _ => panic!("usage: second exchanges"),
+    };
+    io::stdout()
+        .write_all(&output)
+        .expect("the output can be written");
+}
+
+fn input() -> Vec<u8> {
+    let mut bytes = Vec::new();
+    io::stdin()
+        .read_to_end(&mut bytes)
+        .expect("the input can be read");
+    bytes
+}
+
+fn input_text() -> String {
+    String::from_utf8(input()).expect("the input is text")
+}

@@ -1,5 +1,6 @@
 //! Asks the original and writes its answers: `generate FOLDER` writes every file of the folder.
-//! Only inputs are made here; every answer comes from the original.
+//! Only inputs are made here; every answer comes from the original. For what the original lacks
+//! there are inputs alone, which the second reading answers.
 
 #[macro_use]
 mod kinds;
@@ -11,6 +12,8 @@ mod digits;
 mod fields;
 mod julian;
 mod leading;
+mod listing_lines;
+mod listings;
 mod numbers;
 mod orders;
 mod panics;
@@ -38,12 +41,19 @@ const FILES: [(&str, fn(&mut Answers)); 12] = [
     ("julian.txt", julian::ask),
 ];
 
+/// The first place after those of the list.
+const LISTINGS_STREAM: u64 = FILES.len() as u64;
+
 fn main() {
     let folder = std::env::args_os().nth(1).expect("usage: generate FOLDER");
+    let folder = Path::new(&folder);
     for (stream, (name, ask)) in (0..).zip(FILES) {
         let mut answers = Answers::new(stream);
         ask(&mut answers);
-        let (edges, samples) = answers.write(&Path::new(&folder).join(name));
+        let (edges, samples) = answers.write(&folder.join(name));
         println!("{name}: {edges} edges, {samples} samples");
+    }
+    for (name, bytes) in listings::write(&folder.join("listing"), LISTINGS_STREAM) {
+        println!("listing/{name}: {bytes} bytes");
     }
 }

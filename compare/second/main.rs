@@ -1,9 +1,13 @@
 //! A second reading of document 01, for what the original lacks. It shares nothing with the port.
 //!
 //!     second exchanges < spellings.txt     the same dates with their exchange texts
+//!     second example                       the input of the page's example, after trying it
+//!     second listing < input               what `datelist` writes for the input
 
 mod exchange;
 mod kinds;
+mod listing;
+mod page;
 
 use std::io::{self, Read, Write};
 
@@ -11,7 +15,9 @@ fn main() {
     let command = std::env::args().nth(1).unwrap_or_default();
     let output = match command.as_str() {
         "exchanges" => exchange::rows(&input_text()).into_bytes(),
-        _ => panic!("usage: second exchanges"),
+        "example" => page::example().as_bytes().to_vec(),
+        "listing" => listing::output(&input()),
+        _ => panic!("usage: second exchanges | example | listing"),
     };
     io::stdout()
         .write_all(&output)

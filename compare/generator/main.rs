@@ -6,6 +6,9 @@
 mod kinds;
 mod additions;
 mod answers;
+mod book_damage;
+mod book_scenes;
+mod book_script;
 mod dates;
 mod differences;
 mod digits;
@@ -23,6 +26,7 @@ mod text_edges;
 mod texts;
 
 use answers::Answers;
+use std::fs;
 use std::path::Path;
 
 /// The files, each with what fills it. A file's place in this list picks its random numbers.
@@ -41,8 +45,9 @@ const FILES: [(&str, fn(&mut Answers)); 12] = [
     ("julian.txt", julian::ask),
 ];
 
-/// The first place after those of the list.
+/// The places after those of the list.
 const LISTINGS_STREAM: u64 = FILES.len() as u64;
+const BOOK_STREAM: u64 = LISTINGS_STREAM + 1;
 
 fn main() {
     let folder = std::env::args_os().nth(1).expect("usage: generate FOLDER");
@@ -56,4 +61,7 @@ fn main() {
     for (name, bytes) in listings::write(&folder.join("listing"), LISTINGS_STREAM) {
         println!("listing/{name}: {bytes} bytes");
     }
+    let script = book_scenes::all(BOOK_STREAM);
+    fs::write(folder.join("book.script"), &script).expect("the file can be written");
+    println!("book.script: {} lines", script.lines().count());
 }

@@ -58,26 +58,29 @@ fn every_kind(script: &mut Script, random: &mut Random) {
     kind::<Vic3Date>(script, random);
 }
 
-/// Every hour of the kind, the ends of every month, landmarks and samples.
+/// Every hour of the kind, the ends of every month, landmarks and samples; and the days past the
+/// ends of months, which are refused.
 fn kind<K: Kind>(script: &mut Script, random: &mut Random) {
     let hours = K::hours();
-    let mut dates = landmarks::<K>();
+    let month_ends: Vec<Fields> = (1..=12)
+        .flat_map(|month| (28..=31).map(move |day| (month, day)))
+        .map(|(month, day)| Fields::new(-YEAR, month, day, hours[0]))
+        .collect();
     let at_hour = |&hour: &u8| K::with(Fields::new(YEAR, 11, 11, hour));
+    let mut dates = landmarks::<K>();
     dates.extend(hours.iter().filter_map(at_hour));
-    for month in 1..=12 {
-        let on = |day: u8| K::with(Fields::new(-YEAR, month, day, hours[0]));
-        dates.extend((28..=31).filter_map(on));
-    }
+    dates.extend(month_ends.iter().copied().filter_map(K::with));
     dates.extend((0..SAMPLES_PER_KIND).map(|_| any_date::<K>(random)));
 
-    script.remark(&format!(
-        "dates of kind {}, each place and one past",
-        K::LETTER
-    ));
+    let letter = K::LETTER;
+    script.remark(&format!("dates of kind {letter}, each place and one past"));
     script.buffer(HEAD + dates.len() * RECORD + 3);
     script.line("new");
-    for &date in &dates {
-        script.append_date(date);
+    for &fields in month_ends.iter().filter(|&&end| K::with(end).is_none()) {
+        script.append_fields(letter, fields);
+    }
+    for date in &dates {
+        script.append_fields(letter, date.fields());
     }
     script.line("check");
     (0..=dates.len()).for_each(|place| script.record(place));

@@ -62,15 +62,18 @@ impl Script {
         self.line(format!("append {letter} {year} {word}"));
     }
 
-    pub fn append_date<K: Kind>(&mut self, date: K) {
+    pub fn append_fields(&mut self, letter: char, fields: Fields) {
         let Fields {
             year,
             month,
             day,
             hour,
-        } = date.fields();
-        let word = word(month.into(), day.into(), hour.into());
-        self.append(K::LETTER, year, word);
+        } = fields;
+        self.append(letter, year, word(month.into(), day.into(), hour.into()));
+    }
+
+    pub fn append_date<K: Kind>(&mut self, date: K) {
+        self.append_fields(K::LETTER, date.fields());
     }
 
     pub fn append_d(&mut self) {

@@ -78,7 +78,7 @@ pub fn all() -> Vec<Vec<u8>> {
     lines
 }
 
-/// Empty lines come first; the lines of the list stand between its bars, which may start a new line.
+/// Empty lines come first. In the list each line stands behind a bar.
 fn shapes() -> Vec<Vec<u8>> {
     let mut shapes = vec![Vec::new(); 2];
     let listed: Vec<u8> = SHAPES

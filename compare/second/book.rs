@@ -38,7 +38,7 @@ impl Record {
         Fields::from_word(self.year, self.word).is_some_and(|date| self.kind.has(date))
     }
 
-    /// "records of five bytes: kind, year (two's complement, big-endian), packed word
+    /// "records of five bytes": kind, "year (two's complement, big-endian), packed word
     /// (big-endian)".
     fn bytes(self) -> [u8; RECORD] {
         let [year_high, year_low] = self.year.to_be_bytes();
@@ -94,8 +94,8 @@ fn write_head(buffer: &mut [u8], records: usize) {
     buffer[4] = VERSION;
 }
 
-/// "check (gives the number of records)". "Order: for books 9 but for its last case, 10, that
-/// case, 11".
+/// "check (gives the number of records)". The order is "for books 9 but for its last case, 10,
+/// that case, 11".
 pub fn check(buffer: &[u8]) -> Result<usize, Refusal> {
     let &[first, second, third, fourth, version, ..] = buffer else {
         return refused(9);
@@ -111,25 +111,25 @@ pub fn check(buffer: &[u8]) -> Result<usize, Refusal> {
         return refused(9);
     }
     let records = (length - 1) / RECORD;
-    let is_bad = |&place: &usize| record_bytes(buffer, place).is_none();
+    let is_bad = |&place: &usize| record_at(buffer, place).is_none();
     match (0..records).find(is_bad) {
         Some(place) => Err(Refusal::Record(place)),
         None => Ok(records),
     }
 }
 
-fn record_bytes(buffer: &[u8], place: usize) -> Option<Record> {
+fn record_at(buffer: &[u8], place: usize) -> Option<Record> {
     Record::from_bytes(&buffer[start(place)..start(place + 1)])
 }
 
-/// "record at a place from 0 (gives its kind and date)". "Order: ... 11, then 12 or 13", so the
+/// "record at a place from 0 (gives its kind and date)". The order is "11, then 12 or 13", so the
 /// whole book is checked first.
 pub fn record(buffer: &[u8], place: usize) -> Result<Record, Refusal> {
     let records = check(buffer)?;
     if place >= records {
         return refused(13);
     }
-    Ok(record_bytes(buffer, place).expect("a checked book's records are dates"))
+    Ok(record_at(buffer, place).expect("a checked book's records are dates"))
 }
 
 /// "append (gives the new record's place)"; 12 for "append: 4,096 records already, or under 5

@@ -67,7 +67,7 @@ fn from_text(letter: u8, rest: &[u8]) -> Answer {
     }
 }
 
-/// "b and g read a number by full decoder or guess". "U b is 8".
+/// Way b reads a number "by full decoder"; "U b" is 8.
 fn from_number(letter: u8, rest: &[u8]) -> Answer {
     match letter {
         b'R' => decode(rest, RawDate::from_binary),
@@ -79,7 +79,7 @@ fn from_number(letter: u8, rest: &[u8]) -> Answer {
     }
 }
 
-/// "U g, R g are 8".
+/// Way g reads a number by "guess"; "U g, R g" are 8.
 fn from_guess(letter: u8, rest: &[u8]) -> Answer {
     match letter {
         b'D' => decode(rest, Date::from_binary_heuristic),
@@ -120,7 +120,7 @@ fn number(rest: &[u8]) -> Option<i32> {
     i32::try_from(value).ok()
 }
 
-/// "dotted text, ISO text", with "single spaces".
+/// "dotted text, ISO text"; "Single spaces".
 fn texts<K: PdsDate>(date: K) -> String {
     format!("{} {}", date.game_fmt(), date.iso_8601())
 }

@@ -1,16 +1,22 @@
 //! Asks the original and writes its answers: `generate FOLDER` writes every file of the folder.
-//! Only inputs are made here; every answer comes from the original.
+//! Only inputs are made here; every answer comes from the original. For what the original lacks
+//! there are inputs alone, which the second reading answers.
 
 #[macro_use]
 mod kinds;
 mod additions;
 mod answers;
+mod book_damage;
+mod book_scenes;
+mod book_script;
 mod dates;
 mod differences;
 mod digits;
 mod fields;
 mod julian;
 mod leading;
+mod listing_lines;
+mod listings;
 mod numbers;
 mod orders;
 mod panics;
@@ -20,6 +26,7 @@ mod text_edges;
 mod texts;
 
 use answers::Answers;
+use std::fs;
 use std::path::Path;
 
 /// The files, each with what fills it. A file's place in this list picks its random numbers.
@@ -38,12 +45,23 @@ const FILES: [(&str, fn(&mut Answers)); 12] = [
     ("julian.txt", julian::ask),
 ];
 
+/// The places after those of the list.
+const LISTINGS_STREAM: u64 = FILES.len() as u64;
+const BOOK_STREAM: u64 = LISTINGS_STREAM + 1;
+
 fn main() {
     let folder = std::env::args_os().nth(1).expect("usage: generate FOLDER");
+    let folder = Path::new(&folder);
     for (stream, (name, ask)) in (0..).zip(FILES) {
         let mut answers = Answers::new(stream);
         ask(&mut answers);
-        let (edges, samples) = answers.write(&Path::new(&folder).join(name));
+        let (edges, samples) = answers.write(&folder.join(name));
         println!("{name}: {edges} edges, {samples} samples");
     }
+    for (name, bytes) in listings::write(&folder.join("listing"), LISTINGS_STREAM) {
+        println!("listing/{name}: {bytes} bytes");
+    }
+    let script = book_scenes::all(BOOK_STREAM);
+    fs::write(folder.join("book.script"), &script).expect("the file can be written");
+    println!("book.script: {} lines", script.lines().count());
 }

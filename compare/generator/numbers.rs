@@ -45,7 +45,7 @@ fn ask_way(answers: &mut Answers, row: impl Fn(i32) -> String) {
     }
 }
 
-fn edges() -> Vec<i32> {
+pub fn edges() -> Vec<i32> {
     let mut edges = vec![i32::MIN, i32::MIN + 1, i32::MAX - 1, i32::MAX];
     edges.extend([LEAST - HOURS_PER_YEAR, LEAST - 24, LEAST - 1, LEAST]);
     edges.extend([LEAST + 1, LEAST + 24, LEAST + HOURS_PER_YEAR]);
@@ -69,7 +69,7 @@ fn edges() -> Vec<i32> {
 }
 
 /// Mostly a date's number, and mostly at an hour that more than one kind takes.
-fn some_number(random: &mut Random) -> i32 {
+pub fn some_number(random: &mut Random) -> i32 {
     let number = match random.index(20) {
         0 => random.between(i32::MIN.into(), i32::MAX.into()),
         1 => random.between(LEAST.into(), 0),

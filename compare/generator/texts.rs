@@ -28,7 +28,7 @@ fn row<K: Kind>(text: &[u8]) -> String {
 }
 
 /// Mostly a date of the kind, spelled in one of the ways that the readers take.
-fn some_text<K: Kind>(random: &mut Random) -> Vec<u8> {
+pub fn some_text<K: Kind>(random: &mut Random) -> Vec<u8> {
     loop {
         let text = match random.index(10) {
             0 => number(random),

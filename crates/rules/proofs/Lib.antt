@@ -16,6 +16,8 @@ pub mod EntryLaws
 pub mod LengthLaws
 pub mod DigitLaws
 pub mod TextBack
+pub mod AnswerLaws
+pub mod LineLaws
 pub mod NumberLaws
 pub mod NumberBack
 pub mod DayLaws

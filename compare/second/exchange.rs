@@ -1,0 +1,67 @@
+//! The exchange text: "Date to text" of document 01.
+//!
+//! Rows of spellings.txt, `K DATE DOTTED ISO ...`, become rows `K DATE EXCHANGE`. The ISO text in
+//! the row is the original's; it is held against this reading, which spells both texts alike but
+//! for the year.
+
+use crate::kinds::{Fields, Kind};
+
+pub fn rows(spellings: &str) -> String {
+    spellings
+        .lines()
+        .map(|spelling| row(spelling) + "\n")
+        .collect()
+}
+
+fn row(spelling: &str) -> String {
+    let [letter, year, month, day, hour, _dotted, iso, ..] =
+        spelling.split(' ').collect::<Vec<_>>()[..]
+    else {
+        panic!("no row of spellings.txt: {spelling}");
+    };
+    let kind = Kind::from_letter(letter).expect("a kind's letter");
+    let date = Fields {
+        year: year.parse().expect("a year"),
+        month: month.parse().expect("a month"),
+        day: day.parse().expect("a day"),
+        hour: hour.parse().expect("an hour"),
+    };
+    assert_eq!(iso_text(kind, date), iso, "the original's ISO text");
+    format!("{letter} {date} {}", exchange_text(kind, date))
+}
+
+/// "year zero-filled to width 4, the sign counted (-5 is `-005`)".
+pub fn iso_text(kind: Kind, date: Fields) -> String {
+    let year = match date.year {
+        ..0 => format!("-{:03}", date.year.unsigned_abs()),
+        0.. => format!("{:04}", date.year),
+    };
+    year + &after_year(kind, date)
+}
+
+/// "as ISO, but a negative year has at least four digits after its sign (-5 is `-0005`)".
+pub fn exchange_text(kind: Kind, date: Fields) -> String {
+    let year = match date.year {
+        ..0 => format!("-{:04}", date.year.unsigned_abs()),
+        0.. => format!("{:04}", date.year),
+    };
+    year + &after_year(kind, date)
+}
+
+/// "then -MM-DD; R and H add T and hour - 1 in two digits if hour is not 0; V always adds T and
+/// its hour; E adds T and its in-game hour".
+fn after_year(kind: Kind, date: Fields) -> String {
+    let day = format!("-{:02}-{:02}", date.month, date.day);
+    match kind {
+        Kind::D | Kind::U => day,
+        Kind::R | Kind::H if date.hour == 0 => day,
+        Kind::R | Kind::H => format!("{day}T{:02}", date.hour - 1),
+        Kind::V => format!("{day}T{:02}", date.hour),
+        Kind::E => format!("{day}T{:02}", in_game_hour(date)),
+    }
+}
+
+/// "E's in-game hour is hour / 2 + 8, rounded down: 8 to 19".
+fn in_game_hour(date: Fields) -> u16 {
+    date.hour / 2 + 8
+}

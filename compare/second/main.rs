@@ -1,0 +1,46 @@
+//! A second reading of document 01, for what the original lacks. It shares nothing with the port.
+//!
+//!     second exchanges < spellings.txt     the same dates with their exchange texts
+//!     second example                       the input of the page's example, after trying all that
+//!                                          the page or the original says of the same
+//!     second listing < input               what `datelist` writes for the input
+//!     second book < script                 the answers of book operations
+
+mod agreement;
+mod book;
+mod exchange;
+mod kinds;
+mod listing;
+mod page;
+mod script;
+
+use std::io::{self, Read, Write};
+
+fn main() {
+    let command = std::env::args().nth(1).unwrap_or_default();
+    let output = match command.as_str() {
+        "exchanges" => exchange::rows(&input_text()).into_bytes(),
+        "example" => {
+            agreement::try_kinds();
+            page::example().as_bytes().to_vec()
+        }
+        "listing" => listing::output(&input()),
+        "book" => script::run(&input_text()).into_bytes(),
+        _ => panic!("usage: second exchanges | example | listing | book"),
+    };
+    io::stdout()
+        .write_all(&output)
+        .expect("the output can be written");
+}
+
+fn input() -> Vec<u8> {
+    let mut bytes = Vec::new();
+    io::stdin()
+        .read_to_end(&mut bytes)
+        .expect("the input can be read");
+    bytes
+}
+
+fn input_text() -> String {
+    String::from_utf8(input()).expect("the input is text")
+}

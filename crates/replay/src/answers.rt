@@ -3,8 +3,8 @@ ghost use mathlib.Core.Path.{_≡_};
 ghost use mathlib.Core.Bool.{true};
 ghost use Prim.Native.Nat.{_≤_};
 ghost use lib.ListN.{drop};
-ghost use Rattle.rules.specs.Words.{bytes, eqZ};
-ghost use Rattle.replay.specs.Rows.{afterWord, fitsYear, dateTold, refusedTold, noAnswer, fitBytes, dateOf, refusalOf, answerOf};
+ghost use Rattle.rules.specs.Words.{eqZ};
+ghost use Rattle.replay.specs.Rows.{fitsYear, dateTold, refusedTold, noAnswer, fitBytes, dateOf, refusalOf, answerOf};
 ghost use Rattle.replay.specs.Verdicts.{sameTold};
 ghost use Rattle.replay.specs.Views.{told, toldRead};
 use crate::rows;
@@ -107,25 +107,11 @@ pub(crate) fn date(s: &[u8], at: usize) -> Said
     no_answer(s)
 }
 
-// The place after the word of a refusal.
-fn after_refused(s: &[u8], at: usize) -> usize
-    ensures { λ r. ⌜ drop r (now (s .entry)) ≡ afterWord (bytes "refused ") (drop at (now (s .entry))) ⌝ }
-{
-    let word = b"refused ";
-    let mut i = 0;
-    let mut place = at;
-    while i < word.len() {
-        place = rows::after(s, place, word[i]);
-        i += 1;
-    }
-    place
-}
-
 // `refused N`.
 fn refusal(s: &[u8], at: usize) -> Said
     ensures { λ r. ⌜ toldRead (now (s .entry)) r ≡ refusalOf (drop at (now (s .entry))) ⌝ }
 {
-    let n = rows::natural(s, after_refused(s, at));
+    let n = rows::natural(s, rows::after_word(s, at, b"refused "));
     let number = n.up;
     let next = n.next;
     if number <= 255 {

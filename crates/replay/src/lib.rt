@@ -20,7 +20,7 @@ pub mod fields;
 pub mod numbers;
 pub mod orders;
 mod quoted;
-mod rows;
+pub mod rows;
 pub mod texts;
 
 // What the rows of a file ask.

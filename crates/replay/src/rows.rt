@@ -3,27 +3,27 @@
 ghost use mathlib.Core.Path.{_≡_};
 ghost use Prim.Native.Nat.{_+_, _<_, _≤_};
 ghost use lib.ListN.{length, drop};
-ghost use Rattle.replay.specs.Rows.{firstByte, afterByte, endsRow, noNumber, rowDigits, numbered, startsWithDigit, naturalOf, signedOf, wholeOf, rowLength};
+ghost use Rattle.replay.specs.Rows.{firstByte, afterByte, afterWord, endsRow, noNumber, rowDigits, numbered, startsWithDigit, naturalOf, signedOf, wholeOf, rowLength};
 ghost use Rattle.replay.specs.Views.{number, wholeRead};
 
 // A place past the end of every slice.
-pub(crate) const NOWHERE: usize = 0xffff_ffff_ffff_ffff;
+pub const NOWHERE: usize = 0xffff_ffff_ffff_ffff;
 
 // up - dn, of which one is 0, and the place after it.
-pub(crate) struct Number {
-    pub(crate) up: u64,
-    pub(crate) dn: u64,
-    pub(crate) next: usize,
+pub struct Number {
+    pub up: u64,
+    pub dn: u64,
+    pub next: usize,
 }
 
 // A number of 32 bits, and the place after it.
-pub(crate) struct Whole {
-    pub(crate) value: i32,
-    pub(crate) next: usize,
+pub struct Whole {
+    pub value: i32,
+    pub next: usize,
 }
 
 // The place after the end of the line that goes on at a place.
-pub(crate) fn next_line(s: &[u8], from: usize) -> usize
+pub fn next_line(s: &[u8], from: usize) -> usize
     requires { ⌜ from < length (now s) ⌝ }
     ensures { λ r. ⌜ (from < r) × (r ≤ length (now (s .entry))) ⌝ }
     ensures { λ r. ⌜ r ≡ from + rowLength (drop from (now (s .entry))) ⌝ }
@@ -39,7 +39,7 @@ pub(crate) fn next_line(s: &[u8], from: usize) -> usize
 }
 
 // The byte at a place, 0 past the end.
-pub(crate) fn byte(s: &[u8], at: usize) -> u8
+pub fn byte(s: &[u8], at: usize) -> u8
     ensures { λ r. ⌜ r ≡ firstByte (drop at (now (s .entry))) ⌝ }
 {
     if at < s.len() {
@@ -49,7 +49,7 @@ pub(crate) fn byte(s: &[u8], at: usize) -> u8
 }
 
 // The place after a byte that must stand at a place.
-pub(crate) fn after(s: &[u8], at: usize, b: u8) -> usize
+pub fn after(s: &[u8], at: usize, b: u8) -> usize
     ensures { λ r. ⌜ drop r (now (s .entry)) ≡ afterByte b (drop at (now (s .entry))) ⌝ }
 {
     if at < s.len() {
@@ -60,8 +60,21 @@ pub(crate) fn after(s: &[u8], at: usize, b: u8) -> usize
     NOWHERE
 }
 
+// The place after a word that must stand at a place.
+pub fn after_word(s: &[u8], at: usize, word: &[u8]) -> usize
+    ensures { λ r. ⌜ drop r (now (s .entry)) ≡ afterWord (now (word .entry)) (drop at (now (s .entry))) ⌝ }
+{
+    let mut i = 0;
+    let mut place = at;
+    while i < word.len() {
+        place = after(s, place, word[i]);
+        i += 1;
+    }
+    place
+}
+
 // Whether a row ends at a place: with its line end, and with nothing after it.
-pub(crate) fn ends(s: &[u8], at: usize) -> bool
+pub fn ends(s: &[u8], at: usize) -> bool
     ensures { λ r. ⌜ r ≡ endsRow (drop at (now (s .entry))) ⌝ }
 {
     if at < s.len() {
@@ -125,7 +138,7 @@ fn found(up: u64, next: usize) -> Number
 }
 
 // At least one digit.
-pub(crate) fn natural(s: &[u8], at: usize) -> Number
+pub fn natural(s: &[u8], at: usize) -> Number
     ensures { λ r. ⌜ number (now (s .entry)) r ≡ naturalOf (drop at (now (s .entry))) ⌝ }
 {
     if digit_at(s, at) {
@@ -135,7 +148,7 @@ pub(crate) fn natural(s: &[u8], at: usize) -> Number
 }
 
 // Digits, with or without a minus.
-pub(crate) fn signed(s: &[u8], at: usize) -> Number
+pub fn signed(s: &[u8], at: usize) -> Number
     ensures { λ r. ⌜ number (now (s .entry)) r ≡ signedOf (drop at (now (s .entry))) ⌝ }
 {
     if byte(s, at) == b'-' {
@@ -152,7 +165,7 @@ pub(crate) fn signed(s: &[u8], at: usize) -> Number
 }
 
 // A number of 32 bits.
-pub(crate) fn whole32(s: &[u8], at: usize) -> Whole
+pub fn whole32(s: &[u8], at: usize) -> Whole
     ensures { λ r. ⌜ wholeRead (now (s .entry)) r ≡ wholeOf (drop at (now (s .entry))) ⌝ }
 {
     let n = signed(s, at);

@@ -1,0 +1,37 @@
+// What a script does to its buffer outside the book's operations. Each of the two that can miss the buffer says whether it was done.
+
+pub(crate) fn fill(buffer: &mut [u8], byte: u8) {
+    let mut i = 0;
+    while i < buffer.len() {
+        buffer[i] = byte;
+        i += 1;
+    }
+}
+
+pub(crate) fn set(buffer: &mut [u8], place: usize, byte: u8) -> bool {
+    if place < buffer.len() {
+        buffer[place] = byte;
+        return true;
+    }
+    false
+}
+
+// Byte by byte, in this order: a copy to a later place repeats what lies between the two.
+pub(crate) fn copy(buffer: &mut [u8], from: usize, count: usize, to: usize) -> bool {
+    if buffer.len() < count {
+        return false;
+    }
+    if buffer.len() - count < from {
+        return false;
+    }
+    if buffer.len() - count < to {
+        return false;
+    }
+    let mut i = 0;
+    while i < count {
+        let byte = buffer[from + i];
+        buffer[to + i] = byte;
+        i += 1;
+    }
+    true
+}

@@ -125,20 +125,17 @@ fn record(row: &[u8]) -> Line {
 }
 
 fn append(row: &[u8]) -> Line {
-    let letter = rows::after_word(row, 0, b"append ");
-    let lettered = kind_of(rows::byte(row, letter));
-    match lettered {
-        Lettered::Kind(kind) => append_date(row, letter, kind),
+    let at = rows::after_word(row, 0, b"append ");
+    let letter = rows::byte(row, at);
+    match kind_of(letter) {
+        Lettered::Kind(kind) => append_date(row, rows::after(row, at, letter), kind),
         Lettered::None => Line::Unread,
     }
 }
 
 // The year and the word that follow the letter of a kind.
-fn append_date(row: &[u8], letter: usize, kind: Kind) -> Line {
-    let year = rows::signed(
-        row,
-        rows::after_word(row, rows::after(row, letter, letter_of(kind)), b" "),
-    );
+fn append_date(row: &[u8], at: usize, kind: Kind) -> Line {
+    let year = rows::signed(row, rows::after(row, at, b' '));
     let word = rows::natural(row, rows::after(row, year.next, b' '));
     if rows::ends(row, word.next) {
         let up = year.up;
@@ -157,19 +154,6 @@ fn append_date(row: &[u8], letter: usize, kind: Kind) -> Line {
         }
     }
     Line::Unread
-}
-
-// ---- a kind and its letter
-
-pub(crate) fn letter_of(kind: Kind) -> u8 {
-    match kind {
-        Kind::Raw => b'R',
-        Kind::Date => b'D',
-        Kind::Hour => b'H',
-        Kind::Uniform => b'U',
-        Kind::Eu5 => b'E',
-        Kind::Vic3 => b'V',
-    }
 }
 
 fn kind_of(letter: u8) -> Lettered {

@@ -1,7 +1,6 @@
 -- `book_script::run` meets its contract: it is safe, and ends. The measure is what is left of the script. Assumes nothing.
 use borrow.Author.Needs.{needs}
-use native.Mathlib.Omega.{arith}
-use mathlib.Core.Path.{_≡_, _∙_}
+use mathlib.Core.Path.{_≡_}
 use Prim.Native.Nat.{_≤_, _-_}
 use lib.ListN.{length}
 use Rattle.book_script.proofs.run.Statement.{statement}

@@ -1,6 +1,5 @@
 -- `book_script::telling::weighed` meets its contract: it is safe, and ends. The measure is what is left of the buffer. Assumes nothing.
 use borrow.Author.Needs.{needs}
-use native.Mathlib.Omega.{arith}
 use Prim.Native.Nat.{_≤_, _<_, _-_}
 use lib.ListN.{length}
 use Rattle.book_script.proofs.telling.weighed.Statement.{statement}

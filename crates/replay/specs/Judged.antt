@@ -9,8 +9,9 @@ use Rattle.rules.specs.Refusals.{Answer}
 use Rattle.rules.specs.Kinds.{Kind, kD, kH}
 use Rattle.rules.specs.Text.{Read}
 use Rattle.replay.specs.Rows.{Told, firstByte, afterSpace, wholeOf, dateOf, answerOf, rowsOf}
-use Rattle.replay.specs.Verdicts.{unaskedTold, judgeOf, judgeNumberOf, pickedOf, countedOf}
-use Rattle.replay.specs.Asked.{oneOf, allKinds, countingKinds, noNumberAsked, numbersAsked, fieldsAsked, additionAsked, binaryAsked, differenceAsked, orderAsked}
+use Rattle.replay.specs.Verdicts.{unaskedTold, judgeOf, judgeNumberOf, judgeRestOf, pickedOf, countedOf}
+use Rattle.replay.specs.Asked.{oneOf, allKinds, countingKinds, noNumberAsked, numbersAsked, fieldsAsked, additionAsked, binaryAsked, differenceAsked, orderAsked, spellingAsked, exchangeAsked}
+use Rattle.replay.specs.Words.{noTextAsked}
 use Rattle.replay.specs.declared.Verdict.{Verdict}
 use Rattle.replay.specs.declared.Verdict.the-variants.{Unread}
 use Rattle.replay.specs.declared.Counts.{Counts}
@@ -69,6 +70,18 @@ differencesJudged row = twoJudged countingKinds differenceAsked row
 unfoldable pub ordersJudged : List ℕ → Verdict
 ordersJudged row = twoJudged allKinds orderAsked row
 
+-- `K DATE TEXT ..`, the texts asked of the date
+abbrev pub wordsJudged : (Kind → Told → List ℕ → Answer (List ℕ)) → List ℕ → Verdict
+wordsJudged ask row =
+    let f = dateOf (afterLetter row) in
+    judgeRestOf (f .rest) (oneOf allKinds (λ k. ask k (f .value) (f .rest)) noTextAsked (firstByte row))
+
+unfoldable pub spellingsJudged : List ℕ → Verdict
+spellingsJudged row = wordsJudged spellingAsked row
+
+unfoldable pub exchangesJudged : List ℕ → Verdict
+exchangesJudged row = wordsJudged exchangeAsked row
+
 -- ---- a whole file
 
 -- the ways whose verdict is defined here; that on a row of texts is not, since the reader of a quoted text has no definition yet
@@ -80,6 +93,8 @@ defined W.Additions = true
 defined W.Differences = true
 defined W.Binaries = true
 defined W.Orders = true
+defined W.Spellings = true
+defined W.Exchanges = true
 
 -- the verdict on a row; of no meaning where it is not defined
 abbrev pub judgedOf : Way → List ℕ → Verdict
@@ -90,6 +105,8 @@ judgedOf W.Additions row = additionsJudged row
 judgedOf W.Differences row = differencesJudged row
 judgedOf W.Binaries row = binariesJudged row
 judgedOf W.Orders row = ordersJudged row
+judgedOf W.Spellings row = spellingsJudged row
+judgedOf W.Exchanges row = exchangesJudged row
 
 -- the counts after a row: one more, where it is picked
 unfoldable pub withRowOf : Way → ℕ → ℕ → List ℕ → Counts → Counts

@@ -16,12 +16,15 @@ mod answers;
 pub mod binaries;
 mod dates;
 pub mod differences;
+pub mod exchanges;
 pub mod fields;
 pub mod numbers;
 pub mod orders;
 mod quoted;
 mod rows;
+pub mod spellings;
 pub mod texts;
+mod words;
 
 // What the rows of a file ask.
 enum Way {
@@ -32,6 +35,8 @@ enum Way {
     Differences,
     Binaries,
     Orders,
+    Spellings,
+    Exchanges,
 }
 
 // What became of a row. An unread one is not a row of its file, or asks what the kind does not have.
@@ -117,6 +122,8 @@ fn judged(way: Way, row: &[u8]) -> Verdict
         Way::Differences => differences::judged(row),
         Way::Binaries => binaries::judged(row),
         Way::Orders => orders::judged(row),
+        Way::Spellings => spellings::judged(row),
+        Way::Exchanges => exchanges::judged(row),
     }
 }
 
@@ -132,6 +139,8 @@ fn has_mark(way: Way, row: &[u8], mark: u8) -> bool
         Way::Differences => true,
         Way::Binaries => true,
         Way::Orders => true,
+        Way::Spellings => true,
+        Way::Exchanges => true,
     }
 }
 
@@ -209,7 +218,7 @@ fn print(text: &[u8]) {
     io::write_all(STDOUT_FILENO, text);
 }
 
-// `print`, `line`, `unread` and the seven `report` functions write, which no contract can say.
+// `print`, `line`, `unread` and the nine `report` functions write, which no contract can say.
 // A line for a kind and a way: how many rows were read, and how many of them say another thing.
 fn line(way: Way, s: &[u8], kind: u8, mark: u8) {
     let t = tally(way, s, kind, mark);

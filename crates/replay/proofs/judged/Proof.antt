@@ -25,10 +25,20 @@ returns-6 c = λ e. rw (c .judged6 .ensures, c .before .enum-told6 .given .1)
 returns-7 : tie.Need-returns-7
 returns-7 c = λ e. rw (c .judged7 .ensures, c .before .enum-told7 .given .1)
 
+returns-8 : tie.Need-returns-8
+returns-8 c = λ e. rw (c .judged8 .ensures, c .before .enum-told8 .given .1)
+
+returns-9 : tie.Need-returns-9
+returns-9 c = λ e. rw (c .judged9 .ensures, c .before .enum-told9 .given .1)
+
 pub judged-spec : {M : Type 1} → statement M
 judged-spec =
     tie.close
     (tie.spec
+    (λ c. search needs)
+    (λ c κs. search needs)
+    (λ c. search needs)
+    (λ c κs. search needs)
     (λ c. search needs)
     (λ c κs. search needs)
     (λ c. search needs)
@@ -49,4 +59,6 @@ judged-spec =
     returns-4
     returns-5
     returns-6
-    returns-7)
+    returns-7
+    returns-8
+    returns-9)

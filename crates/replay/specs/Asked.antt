@@ -54,6 +54,9 @@ countingKinds = kD ∷ kE ∷ kV ∷ []
 abbrev pub textAsked : Kind → List ℕ → Told
 textAsked k s = shown (store (readText k s))
 
+abbrev pub textsAsked : ℕ → List ℕ → Told
+textsAsked kind s = oneOf allKinds (λ k. textAsked k s) unaskedTold kind
+
 abbrev pub numberAsked : Kind → ℤ → Told
 numberAsked k n = shown (store (readNumber k n))
 

@@ -1,7 +1,7 @@
 -- The verdict on a row of each file, by what it says and what the definitions answer. A row starts with the letter of its kind.
 -- Assumes nothing.
 use Prim.Native.Nat.{ℕ}
-use mathlib.Core.Bool.{Bool, true, false, cond}
+use mathlib.Core.Bool.{cond}
 use mathlib.Core.List.{List, [], _∷_}
 use lib.ListN.{drop}
 use lib.IntN.{ℤ}
@@ -10,10 +10,10 @@ use Rattle.rules.specs.Kinds.{Kind, kD, kH}
 use Rattle.rules.specs.Text.{Read}
 use Rattle.replay.specs.Rows.{Told, firstByte, afterSpace, wholeOf, dateOf, answerOf, rowsOf}
 use Rattle.replay.specs.Verdicts.{unaskedTold, judgeOf, judgeNumberOf, judgeRestOf, pickedOf, countedOf}
-use Rattle.replay.specs.Asked.{oneOf, allKinds, countingKinds, noNumberAsked, numbersAsked, fieldsAsked, additionAsked, binaryAsked, differenceAsked, orderAsked, spellingAsked, exchangeAsked}
+use Rattle.replay.specs.Asked.{oneOf, allKinds, countingKinds, noNumberAsked, textsAsked, numbersAsked, fieldsAsked, additionAsked, binaryAsked, differenceAsked, orderAsked, spellingAsked, exchangeAsked}
 use Rattle.replay.specs.Words.{noTextAsked}
+use Rattle.replay.specs.Quoted.{quotedOf}
 use Rattle.replay.specs.declared.Verdict.{Verdict}
-use Rattle.replay.specs.declared.Verdict.the-variants.{Unread}
 use Rattle.replay.specs.declared.Counts.{Counts}
 use Rattle.replay.specs.declared.Way.{Way}
 use Rattle.replay.specs.declared.Way.the-variants as W
@@ -31,6 +31,12 @@ wholeAfter r = wholeOf (afterSpace (r .rest))
 
 abbrev pub answerAfter : {A : Type 0} → Read A → Read Told
 answerAfter r = answerOf (afterSpace (r .rest))
+
+-- `K "TEXT" DATE`
+unfoldable pub textsJudged : List ℕ → Verdict
+textsJudged row =
+    let q = quotedOf (afterLetter row) in
+    judgeOf (answerAfter q) (textsAsked (firstByte row) (q .value))
 
 -- `K b N DATE`, `K g N DATE`
 unfoldable pub numbersJudged : List ℕ → Verdict
@@ -84,21 +90,9 @@ exchangesJudged row = wordsJudged exchangeAsked row
 
 -- ---- a whole file
 
--- the ways whose verdict is defined here; that on a row of texts is not, since the reader of a quoted text has no definition yet
-abbrev pub defined : Way → Bool
-defined W.Texts = false
-defined W.Numbers = true
-defined W.Fields = true
-defined W.Additions = true
-defined W.Differences = true
-defined W.Binaries = true
-defined W.Orders = true
-defined W.Spellings = true
-defined W.Exchanges = true
-
--- the verdict on a row; of no meaning where it is not defined
+-- the verdict on a row
 abbrev pub judgedOf : Way → List ℕ → Verdict
-judgedOf W.Texts row = Unread
+judgedOf W.Texts row = textsJudged row
 judgedOf W.Numbers row = numbersJudged row
 judgedOf W.Fields row = fieldsJudged row
 judgedOf W.Additions row = additionsJudged row

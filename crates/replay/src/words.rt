@@ -2,7 +2,6 @@
 ghost use mathlib.Core.Path.{_≡_};
 ghost use Prim.Native.Nat.{_≤_};
 ghost use lib.ListN.{length, take, drop};
-ghost use Rattle.rules.specs.Refusals.{Gives};
 ghost use Rattle.formatter.specs.Views.{spelled, lengthOf};
 ghost use Rattle.replay.specs.Rows.{afterSpace, afterWord};
 ghost use Rattle.replay.specs.Verdicts.{judgeRestOf};

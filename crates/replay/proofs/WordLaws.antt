@@ -4,11 +4,15 @@ use mathlib.Core.Path.{_≡_, refl}
 use mathlib.Core.Bool.{Bool, true, false}
 use mathlib.Core.List.{List}
 use Prim.Native.Nat.{ℕ}
+use native.Mathlib.Omega.{arith}
+use borrow.Author.Tests.{le-leb}
 use lib.Dec.{leb}
 use lib.ListN.{length, drop}
 use lib.Seq.{take-append-seam}
 use Rattle.rules.specs.Refusals.{Answer, Gives, Refused, RefusedAt}
 use Rattle.rules.specs.Spelling.{putAnswer, putBuffer}
+use Rattle.rules.proofs.LengthLaws.{Sized}
+use Rattle.replay.specs.Rows.{afterSpace, afterWord}
 use Rattle.replay.specs.Words.{textRoom, afterText, afterPut}
 
 put-by : (t : Bool) (text out s : List ℕ) → length out ≡ textRoom → leb (length text) textRoom ≡ t →
@@ -22,6 +26,11 @@ unfolding putAnswer putBuffer afterText
 text-put (Gives text) out s h = put-by (leb (length text) textRoom) text out s h refl
 text-put (Refused n) out s h = refl
 text-put (RefusedAt n place) out s h = refl
+
+-- every text of a date has 5 to 15 bytes (`text-lengths` of `rules`): so there is room for it, and it is asked for
+pub has-room : (text s : List ℕ) → Sized 5 15 text → afterText (Gives text) s ≡ Gives (afterWord text (afterSpace s))
+unfolding afterText
+has-room text s h = rw (le-leb (length text) textRoom (omega (arith, h .1)))
 
 -- a row that is passed by what a kind answers and leaves in the buffer is passed by the text
 pub text-passed : {passed : Answer (List ℕ)} (text : Answer (List ℕ)) (n : Answer ℕ) (out exit s : List ℕ) → length out ≡ textRoom →

@@ -19,7 +19,7 @@ abbrev pub passedTo : List ℕ → Passed → Answer (List ℕ)
 passedTo s (P.To place) = Gives (drop place s)
 passedTo s P.Unasked = noTextAsked
 
--- a text of more bytes is not asked for; the longest of a date has 15
+-- a text of more bytes is not asked for; a date has none (`WordLaws.has-room`)
 abbrev pub textRoom : ℕ
 textRoom = 16
 

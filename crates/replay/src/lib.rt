@@ -1,5 +1,5 @@
-// The stored answers of the original, asked again: each row is read, the kind's public method is called,
-// and what it answers is held against what the row says.
+// The stored answers of the original, and exchange texts worked out from the scope, asked again: each row is read,
+// the kind's public method is called, and what it answers is held against what the row says.
 ghost use mathlib.Core.Path.{_≡_};
 ghost use Prim.Native.Nat.{_+_, _<_, _≤_};
 ghost use Rattle.rules.specs.Refusals.{Gives, Refused};

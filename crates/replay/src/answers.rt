@@ -8,6 +8,7 @@ ghost use Rattle.replay.specs.Rows.{afterWord, fitsYear, dateTold, refus
 ghost use Rattle.replay.specs.Verdicts.{sameTold};
 ghost use Rattle.replay.specs.Views.{told, toldRead};
 use crate::rows;
+use crate::words;
 
 // A date with its stored hour, or the number of a refusal (0: none), and the place after it.
 pub(crate) struct Said {
@@ -111,14 +112,7 @@ pub(crate) fn date(s: &[u8], at: usize) -> Said
 fn after_refused(s: &[u8], at: usize) -> usize
     ensures { λ r. ⌜ drop r (now (s .entry)) ≡ afterWord (bytes "refused ") (drop at (now (s .entry))) ⌝ }
 {
-    let word = b"refused ";
-    let mut i = 0;
-    let mut place = at;
-    while i < word.len() {
-        place = rows::after(s, place, word[i]);
-        i += 1;
-    }
-    place
+    words::after_word(s, at, b"refused ")
 }
 
 // `refused N`.

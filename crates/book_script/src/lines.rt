@@ -4,6 +4,7 @@ use crate::operations::Operation;
 use expanded::Kind;
 use expanded::Packed;
 use replay::rows;
+use replay::words;
 
 pub(crate) enum Line {
     Remark,
@@ -58,7 +59,7 @@ fn place_of(n: u64) -> usize {
 // ---- what prepares the buffer
 
 fn buffer(row: &[u8]) -> Line {
-    let length = rows::natural(row, rows::after_word(row, 0, b"buffer "));
+    let length = rows::natural(row, words::after_word(row, 0, b"buffer "));
     let byte = rows::natural(row, rows::after(row, length.next, b' '));
     if rows::ends(row, byte.next) {
         if byte.up <= 255 {
@@ -72,7 +73,7 @@ fn buffer(row: &[u8]) -> Line {
 }
 
 fn set(row: &[u8]) -> Line {
-    let place = rows::natural(row, rows::after_word(row, 0, b"set "));
+    let place = rows::natural(row, words::after_word(row, 0, b"set "));
     let byte = rows::natural(row, rows::after(row, place.next, b' '));
     if rows::ends(row, byte.next) {
         if byte.up <= 255 {
@@ -86,7 +87,7 @@ fn set(row: &[u8]) -> Line {
 }
 
 fn copy(row: &[u8]) -> Line {
-    let from = rows::natural(row, rows::after_word(row, 0, b"copy "));
+    let from = rows::natural(row, words::after_word(row, 0, b"copy "));
     let count = rows::natural(row, rows::after(row, from.next, b' '));
     let to = rows::natural(row, rows::after(row, count.next, b' '));
     if rows::ends(row, to.next) {
@@ -102,21 +103,21 @@ fn copy(row: &[u8]) -> Line {
 // ---- the operations
 
 fn new(row: &[u8]) -> Line {
-    if rows::ends(row, rows::after_word(row, 0, b"new")) {
+    if rows::ends(row, words::after_word(row, 0, b"new")) {
         return Line::Operation(Operation::New);
     }
     Line::Unread
 }
 
 fn check(row: &[u8]) -> Line {
-    if rows::ends(row, rows::after_word(row, 0, b"check")) {
+    if rows::ends(row, words::after_word(row, 0, b"check")) {
         return Line::Operation(Operation::Check);
     }
     Line::Unread
 }
 
 fn record(row: &[u8]) -> Line {
-    let place = rows::natural(row, rows::after_word(row, 0, b"record "));
+    let place = rows::natural(row, words::after_word(row, 0, b"record "));
     if rows::ends(row, place.next) {
         let at = place_of(place.up);
         return Line::Operation(Operation::Record(at));
@@ -125,7 +126,7 @@ fn record(row: &[u8]) -> Line {
 }
 
 fn append(row: &[u8]) -> Line {
-    let at = rows::after_word(row, 0, b"append ");
+    let at = words::after_word(row, 0, b"append ");
     let letter = rows::byte(row, at);
     match kind_of(letter) {
         Lettered::Kind(kind) => append_date(row, rows::after(row, at, letter), kind),

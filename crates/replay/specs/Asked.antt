@@ -10,9 +10,11 @@ use Rattle.rules.specs.Kinds.{Kind, kR, kD, kH, kU, kE, kV, Fields, made, fromF
 use Rattle.rules.specs.Numbers.{readNumber, guessNumber, writeNumber}
 use Rattle.rules.specs.Days.{Order, Before, Same, After, addDays, difference, order}
 use Rattle.rules.specs.Text.{readText}
+use Rattle.rules.specs.Spelling.{dotted, iso, exchange, hasIsoDate, isoDateAlone}
 use Rattle.rules.specs.Listing.{letter}
 use Rattle.replay.specs.Rows.{Told, dateTold, refusedTold}
 use Rattle.replay.specs.Verdicts.{unaskedNumber, unaskedTold}
+use Rattle.replay.specs.Words.{noTextAsked, afterText}
 
 -- ---- what is told of an answer
 
@@ -51,6 +53,9 @@ countingKinds = kD ∷ kE ∷ kV ∷ []
 
 abbrev pub textAsked : Kind → List ℕ → Told
 textAsked k s = shown (store (readText k s))
+
+abbrev pub textsAsked : ℕ → List ℕ → Told
+textsAsked kind s = oneOf allKinds (λ k. textAsked k s) unaskedTold kind
 
 abbrev pub numberAsked : Kind → ℤ → Told
 numberAsked k n = shown (store (readNumber k n))
@@ -118,3 +123,23 @@ ordering a = orUnasked (a then λ o. Gives (orderNumber o))
 
 abbrev pub orderAsked : Kind → Told → Told → Answer ℤ
 orderAsked k = ofTwo k (λ d e. ordering (handed k d then λ f. handed k e then λ g. Gives (order f g)))
+
+-- ---- texts of a date that a row names
+
+-- what of a row follows a text of the date, given by its definition
+abbrev pub afterOwn : Kind → (Fields → Answer (List ℕ)) → Stored → List ℕ → Answer (List ℕ)
+afterOwn k text d s = afterText (handed k d then text) s
+
+-- the ISO text, and after it the ISO date alone where the kind has it
+abbrev pub afterIso : Kind → Stored → List ℕ → Answer (List ℕ)
+afterIso k d s =
+    let isoText = afterOwn k (λ g. Gives (iso k g)) d s in
+    cond (hasIsoDate k) (isoText then λ r. afterOwn k (isoDateAlone k) d r) isoText
+
+-- the dotted text, and after it the ISO text
+abbrev pub spellingAsked : Kind → Told → List ℕ → Answer (List ℕ)
+spellingAsked k f s =
+    ofDate (dateNamed k f) (λ d. afterOwn k (λ g. Gives (dotted k g)) d s then λ r. afterIso k d r) noTextAsked
+
+abbrev pub exchangeAsked : Kind → Told → List ℕ → Answer (List ℕ)
+exchangeAsked k f s = ofDate (dateNamed k f) (λ d. afterOwn k (λ g. Gives (exchange k g)) d s) noTextAsked

@@ -1,7 +1,7 @@
 -- The verdict on a row of each file, by what it says and what the definitions answer. A row starts with the letter of its kind.
 -- Assumes nothing.
 use Prim.Native.Nat.{ℕ}
-use mathlib.Core.Bool.{Bool, true, false, cond}
+use mathlib.Core.Bool.{cond}
 use mathlib.Core.List.{List, [], _∷_}
 use lib.ListN.{drop}
 use lib.IntN.{ℤ}
@@ -9,10 +9,11 @@ use Rattle.rules.specs.Refusals.{Answer}
 use Rattle.rules.specs.Kinds.{Kind, kD, kH}
 use Rattle.rules.specs.Text.{Read}
 use Rattle.replay.specs.Rows.{Told, firstByte, afterSpace, wholeOf, dateOf, answerOf, rowsOf}
-use Rattle.replay.specs.Verdicts.{unaskedTold, judgeOf, judgeNumberOf, pickedOf, countedOf}
-use Rattle.replay.specs.Asked.{oneOf, allKinds, countingKinds, noNumberAsked, numbersAsked, fieldsAsked, additionAsked, binaryAsked, differenceAsked, orderAsked}
+use Rattle.replay.specs.Verdicts.{unaskedTold, judgeOf, judgeNumberOf, judgeRestOf, pickedOf, countedOf}
+use Rattle.replay.specs.Asked.{oneOf, allKinds, countingKinds, noNumberAsked, textsAsked, numbersAsked, fieldsAsked, additionAsked, binaryAsked, differenceAsked, orderAsked, spellingAsked, exchangeAsked}
+use Rattle.replay.specs.Words.{noTextAsked}
+use Rattle.replay.specs.Quoted.{quotedOf}
 use Rattle.replay.specs.declared.Verdict.{Verdict}
-use Rattle.replay.specs.declared.Verdict.the-variants.{Unread}
 use Rattle.replay.specs.declared.Counts.{Counts}
 use Rattle.replay.specs.declared.Way.{Way}
 use Rattle.replay.specs.declared.Way.the-variants as W
@@ -30,6 +31,12 @@ wholeAfter r = wholeOf (afterSpace (r .rest))
 
 abbrev pub answerAfter : {A : Type 0} → Read A → Read Told
 answerAfter r = answerOf (afterSpace (r .rest))
+
+-- `K "TEXT" DATE`
+unfoldable pub textsJudged : List ℕ → Verdict
+textsJudged row =
+    let q = quotedOf (afterLetter row) in
+    judgeOf (answerAfter q) (textsAsked (firstByte row) (q .value))
 
 -- `K b N DATE`, `K g N DATE`
 unfoldable pub numbersJudged : List ℕ → Verdict
@@ -69,27 +76,31 @@ differencesJudged row = twoJudged countingKinds differenceAsked row
 unfoldable pub ordersJudged : List ℕ → Verdict
 ordersJudged row = twoJudged allKinds orderAsked row
 
+-- `K DATE TEXT ..`, the texts asked of the date
+abbrev pub wordsJudged : (Kind → Told → List ℕ → Answer (List ℕ)) → List ℕ → Verdict
+wordsJudged ask row =
+    let f = dateOf (afterLetter row) in
+    judgeRestOf (f .rest) (oneOf allKinds (λ k. ask k (f .value) (f .rest)) noTextAsked (firstByte row))
+
+unfoldable pub spellingsJudged : List ℕ → Verdict
+spellingsJudged row = wordsJudged spellingAsked row
+
+unfoldable pub exchangesJudged : List ℕ → Verdict
+exchangesJudged row = wordsJudged exchangeAsked row
+
 -- ---- a whole file
 
--- the ways whose verdict is defined here; that on a row of texts is not, since the reader of a quoted text has no definition yet
-abbrev pub defined : Way → Bool
-defined W.Texts = false
-defined W.Numbers = true
-defined W.Fields = true
-defined W.Additions = true
-defined W.Differences = true
-defined W.Binaries = true
-defined W.Orders = true
-
--- the verdict on a row; of no meaning where it is not defined
+-- the verdict on a row
 abbrev pub judgedOf : Way → List ℕ → Verdict
-judgedOf W.Texts row = Unread
+judgedOf W.Texts row = textsJudged row
 judgedOf W.Numbers row = numbersJudged row
 judgedOf W.Fields row = fieldsJudged row
 judgedOf W.Additions row = additionsJudged row
 judgedOf W.Differences row = differencesJudged row
 judgedOf W.Binaries row = binariesJudged row
 judgedOf W.Orders row = ordersJudged row
+judgedOf W.Spellings row = spellingsJudged row
+judgedOf W.Exchanges row = exchangesJudged row
 
 -- the counts after a row: one more, where it is picked
 unfoldable pub withRowOf : Way → ℕ → ℕ → List ℕ → Counts → Counts

@@ -4,3 +4,4 @@ pub mod Quoted
 pub mod Rows
 pub mod Verdicts
 pub mod Views
+pub mod Words

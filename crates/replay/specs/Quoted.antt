@@ -1,12 +1,14 @@
--- One byte of a text in double quotes: bytes 0x21 to 0x7e other than `"` and `\` are themselves, every other byte is `\xNN`.
+-- A text in double quotes: bytes 0x21 to 0x7e other than `"` and `\` are themselves, every other byte is `\xNN`.
 -- Assumes nothing.
-use Prim.Native.Nat.{ℕ, _+_, _*_, _-_}
+use Prim.Native.Nat.{ℕ, zero, suc, _+_, _*_, _-_}
 use mathlib.Core.Bool.{cond, _&&_}
-use mathlib.Core.List.{List, [], _∷_}
+use mathlib.Core.List.{List, [], _∷_, _++_}
 use lib.Dec.{ltb, eqb}
-use lib.ListN.{drop}
+use lib.ListN.{take, drop}
 use Rattle.rules.specs.Words.{within, byte}
 use Rattle.rules.specs.Text.{Read}
+use Rattle.replay.specs.Rows.{afterByte}
+use Rattle.replay.specs.declared.quoted.Quoted.{Quoted}
 use Rattle.replay.specs.declared.quoted.Spelled.{Spelled}
 
 -- the value of a hexadecimal digit, or 16
@@ -33,6 +35,31 @@ unfoldable pub singleOf : List ℕ → Read ℕ
 singleOf [] = noByte
 singleOf (b ∷ s) = cond (eqb b 92) (escapedOf (b ∷ s)) (cond (within 33 126 b) (record { value = b; rest = s }) noByte)
 
--- a place stands for the rest of the row from there
+-- ---- the whole text
+
+-- where there is no text, nothing follows it
+abbrev pub noText : Read (List ℕ)
+noText = record { value = []; rest = [] }
+
+-- the text that ends here with its quote, or else what more there is
+abbrev pub closed : List ℕ → List ℕ → Read (List ℕ) → Read (List ℕ)
+closed text [] more = noText
+closed text (b ∷ s) more = cond (eqb b 34) (record { value = text; rest = s }) more
+
+-- the text that goes on after these bytes, with at most k more
+unfoldable pub quotedIn : ℕ → List ℕ → List ℕ → Read (List ℕ)
+quotedIn zero text s = closed text s noText
+quotedIn (suc k) text s = closed text s (quotedIn k (text ++ singleOf s .value ∷ []) (singleOf s .rest))
+
+-- a text of at most 16 bytes, between quotes
+abbrev pub quotedOf : List ℕ → Read (List ℕ)
+quotedOf s = quotedIn 16 [] (afterByte 34 s)
+
+-- ---- the code's types: a place stands for the rest of the row from there
+
+-- the first bytes of a buffer are the text
+abbrev pub quotedRead : List ℕ → List ℕ → Quoted → Read (List ℕ)
+quotedRead s out q = record { value = take (q .len) out; rest = drop (q .next) s }
+
 abbrev pub spelled : List ℕ → Spelled → Read ℕ
 spelled s r = record { value = r .value; rest = drop (r .next) s }

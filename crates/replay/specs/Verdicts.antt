@@ -5,7 +5,7 @@ use mathlib.Core.List.{List}
 use lib.Dec.{eqb}
 use lib.IntN.{ℤ}
 use lib.ListN.{drop}
-use Rattle.rules.specs.Words.{eqZ}
+use Rattle.rules.specs.Words.{eqZ, byte}
 use Rattle.rules.specs.Refusals.{Answer, Gives, Refused, RefusedAt}
 use Rattle.rules.specs.Text.{Read}
 use Rattle.replay.specs.Rows.{Told, refusedTold, firstByte, endsRow}
@@ -42,6 +42,12 @@ judgeNumberOf said (Gives n) = verdict false (endsRow (said .rest)) (eqZ (said .
 judgeNumberOf said (Refused n) = Unread
 judgeNumberOf said (RefusedAt n place) = Unread
 
+-- texts: what of the row is theirs, and what follows them; where a row goes on with a space, it must end after them
+unfoldable pub judgeRestOf : List ℕ → Answer (List ℕ) → Verdict
+judgeRestOf texts (Gives rest) = verdict false (eqb (firstByte texts) (byte " ")) (endsRow rest)
+judgeRestOf texts (Refused n) = Unread
+judgeRestOf texts (RefusedAt n place) = Unread
+
 -- ---- counts
 
 -- the rows of numbers are told apart by their second letter too
@@ -53,6 +59,8 @@ hasMark W.Additions row mark = true
 hasMark W.Differences row mark = true
 hasMark W.Binaries row mark = true
 hasMark W.Orders row mark = true
+hasMark W.Spellings row mark = true
+hasMark W.Exchanges row mark = true
 
 -- whether a row is one of those to be counted; 0 in the place of a kind's letter picks every row
 unfoldable pub pickedOf : Way → List ℕ → ℕ → ℕ → Bool

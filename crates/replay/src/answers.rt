@@ -3,11 +3,12 @@ ghost use mathlib.Core.Path.{_≡_};
 ghost use mathlib.Core.Bool.{true};
 ghost use Prim.Native.Nat.{_≤_};
 ghost use lib.ListN.{drop};
-ghost use Rattle.rules.specs.Words.{eqZ};
-ghost use Rattle.replay.specs.Rows.{fitsYear, dateTold, refusedTold, noAnswer, fitBytes, dateOf, refusalOf, answerOf};
+ghost use Rattle.rules.specs.Words.{bytes, eqZ};
+ghost use Rattle.replay.specs.Rows.{afterWord, fitsYear, dateTold, refusedTold, noAnswer, fitBytes, dateOf, refusalOf, answerOf};
 ghost use Rattle.replay.specs.Verdicts.{sameTold};
 ghost use Rattle.replay.specs.Views.{told, toldRead};
 use crate::rows;
+use crate::words;
 
 // A date with its stored hour, or the number of a refusal (0: none), and the place after it.
 pub(crate) struct Said {
@@ -107,11 +108,18 @@ pub(crate) fn date(s: &[u8], at: usize) -> Said
     no_answer(s)
 }
 
+// The place after the word of a refusal.
+fn after_refused(s: &[u8], at: usize) -> usize
+    ensures { λ r. ⌜ drop r (now (s .entry)) ≡ afterWord (bytes "refused ") (drop at (now (s .entry))) ⌝ }
+{
+    words::after_word(s, at, b"refused ")
+}
+
 // `refused N`.
 fn refusal(s: &[u8], at: usize) -> Said
     ensures { λ r. ⌜ toldRead (now (s .entry)) r ≡ refusalOf (drop at (now (s .entry))) ⌝ }
 {
-    let n = rows::natural(s, rows::after_word(s, at, b"refused "));
+    let n = rows::natural(s, after_refused(s, at));
     let number = n.up;
     let next = n.next;
     if number <= 255 {

@@ -1,11 +1,10 @@
-// The stored answers of the original, asked again: each row is read, the kind's public method is called,
-// and what it answers is held against what the row says.
+// The stored answers of the original, and exchange texts worked out from the scope, asked again: each row is read,
+// the kind's public method is called, and what it answers is held against what the row says.
 ghost use mathlib.Core.Path.{_≡_};
-ghost use mathlib.Core.Bool.{true};
 ghost use Prim.Native.Nat.{_+_, _<_, _≤_};
 ghost use Rattle.rules.specs.Refusals.{Gives, Refused};
 ghost use Rattle.replay.specs.Verdicts.{unaskedTold, unaskedNumber, judgeOf, judgeNumberOf, hasMark, pickedOf, countedOf};
-ghost use Rattle.replay.specs.Judged.{defined, judgedOf, withRowOf, tallyOf};
+ghost use Rattle.replay.specs.Judged.{judgedOf, withRowOf, tallyOf};
 ghost use Rattle.replay.specs.Views.{nowhere, wholeRead, wholeAsked, told, toldRead};
 use crate::answers::Said;
 use crate::rows::Whole;
@@ -16,12 +15,15 @@ mod answers;
 pub mod binaries;
 mod dates;
 pub mod differences;
+pub mod exchanges;
 pub mod fields;
 pub mod numbers;
 pub mod orders;
 mod quoted;
 pub mod rows;
+pub mod spellings;
 pub mod texts;
+pub mod words;
 
 // What the rows of a file ask.
 enum Way {
@@ -32,6 +34,8 @@ enum Way {
     Differences,
     Binaries,
     Orders,
+    Spellings,
+    Exchanges,
 }
 
 // What became of a row. An unread one is not a row of its file, or asks what the kind does not have.
@@ -107,7 +111,7 @@ fn judge_number(row: &[u8], said: Whole, got: Whole) -> Verdict
 }
 
 fn judged(way: Way, row: &[u8]) -> Verdict
-    ensures { λ r. ⌜ (defined way ≡ true → r ≡ judgedOf way (now (row .entry))) ⌝ }
+    ensures { λ r. ⌜ r ≡ judgedOf way (now (row .entry)) ⌝ }
 {
     match way {
         Way::Texts => texts::judged(row),
@@ -117,6 +121,8 @@ fn judged(way: Way, row: &[u8]) -> Verdict
         Way::Differences => differences::judged(row),
         Way::Binaries => binaries::judged(row),
         Way::Orders => orders::judged(row),
+        Way::Spellings => spellings::judged(row),
+        Way::Exchanges => exchanges::judged(row),
     }
 }
 
@@ -132,6 +138,8 @@ fn has_mark(way: Way, row: &[u8], mark: u8) -> bool
         Way::Differences => true,
         Way::Binaries => true,
         Way::Orders => true,
+        Way::Spellings => true,
+        Way::Exchanges => true,
     }
 }
 
@@ -178,7 +186,7 @@ fn counted(t: Counts, v: Verdict) -> Counts
 
 // The counts over the rows of a file.
 fn tally(way: Way, s: &[u8], kind: u8, mark: u8) -> Counts
-    ensures { λ r. ⌜ (defined way ≡ true → r ≡ tallyOf way (now (s .entry)) kind mark) ⌝ }
+    ensures { λ r. ⌜ r ≡ tallyOf way (now (s .entry)) kind mark ⌝ }
 {
     let mut t = Counts {
         rows: 0,
@@ -196,7 +204,7 @@ fn tally(way: Way, s: &[u8], kind: u8, mark: u8) -> Counts
 
 fn with_row(way: Way, row: &[u8], kind: u8, mark: u8, t: Counts) -> Counts
     requires { ⌜ (t .rows < nowhere) × (t .wrong < nowhere) × (t .unread < nowhere) ⌝ }
-    ensures { λ r. ⌜ (defined way ≡ true → r ≡ withRowOf way kind mark (now (row .entry)) t) ⌝ }
+    ensures { λ r. ⌜ r ≡ withRowOf way kind mark (now (row .entry)) t ⌝ }
     ensures { λ r. ⌜ (r .rows ≤ t .rows + 1) × (r .wrong ≤ t .wrong + 1) × (r .unread ≤ t .unread + 1) ⌝ }
 {
     if picked(way, row, kind, mark) {
@@ -209,7 +217,7 @@ fn print(text: &[u8]) {
     io::write_all(STDOUT_FILENO, text);
 }
 
-// `print`, `line`, `unread` and the seven `report` functions write, which no contract can say.
+// `print`, `line`, `unread` and the nine `report` functions write, which no contract can say.
 // A line for a kind and a way: how many rows were read, and how many of them say another thing.
 fn line(way: Way, s: &[u8], kind: u8, mark: u8) {
     let t = tally(way, s, kind, mark);

@@ -5,7 +5,8 @@ use crate::rows::after;
 ghost use mathlib.Core.Path.{_≡_};
 ghost use Prim.Native.Nat.{_<_, _≤_};
 ghost use lib.ListN.{length, drop};
-ghost use Rattle.replay.specs.Quoted.{hexValue, escapedOf, singleOf, spelled};
+ghost use Rattle.replay.specs.Quoted.{hexValue, escapedOf, singleOf, spelled, quotedOf, quotedRead};
+ghost use Rattle.replay.specs.Views.{nowhere};
 
 // How many bytes the text has, and the place after it.
 pub(crate) struct Quoted {
@@ -20,7 +21,7 @@ struct Spelled {
 }
 
 fn no_text() -> Quoted
-    ensures { λ r. ⌜ r .len ≤ 0 ⌝ }
+    ensures { λ r. ⌜ (r .len ≡ 0) × (r .next ≡ nowhere) ⌝ }
 {
     Quoted {
         len: 0,
@@ -95,8 +96,10 @@ fn single(s: &[u8], at: usize) -> Spelled
     }
 }
 
-// The text that begins at a place, of at most 16 bytes, into `out`.
+// The text that begins at a place, of at most 16 bytes, into `out`. That an array behind a `&mut` is full is for the caller to say.
 pub(crate) fn text(s: &[u8], at: usize, out: &mut [u8; 16]) -> Quoted
+    requires { ⌜ length (now out) ≡ 16 ⌝ }
+    ensures { λ r. ⌜ quotedRead (now (s .entry)) (now (out .exit)) r ≡ quotedOf (drop at (now (s .entry))) ⌝ }
     ensures { λ r. ⌜ r .len ≤ 16 ⌝ }
 {
     let mut place = after(s, at, b'"');

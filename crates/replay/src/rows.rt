@@ -3,7 +3,7 @@
 ghost use mathlib.Core.Path.{_≡_};
 ghost use Prim.Native.Nat.{_+_, _<_, _≤_};
 ghost use lib.ListN.{length, drop};
-ghost use Rattle.replay.specs.Rows.{firstByte, afterByte, afterWord, endsRow, noNumber, rowDigits, numbered, startsWithDigit, naturalOf, signedOf, wholeOf, rowLength};
+ghost use Rattle.replay.specs.Rows.{firstByte, afterByte, endsRow, noNumber, rowDigits, numbered, startsWithDigit, naturalOf, signedOf, wholeOf, rowLength};
 ghost use Rattle.replay.specs.Views.{number, wholeRead};
 
 // A place past the end of every slice.
@@ -58,19 +58,6 @@ pub fn after(s: &[u8], at: usize, b: u8) -> usize
         }
     }
     NOWHERE
-}
-
-// The place after a word that must stand at a place.
-pub fn after_word(s: &[u8], at: usize, word: &[u8]) -> usize
-    ensures { λ r. ⌜ drop r (now (s .entry)) ≡ afterWord (now (word .entry)) (drop at (now (s .entry))) ⌝ }
-{
-    let mut i = 0;
-    let mut place = at;
-    while i < word.len() {
-        place = after(s, place, word[i]);
-        i += 1;
-    }
-    place
 }
 
 // Whether a row ends at a place: with its line end, and with nothing after it.

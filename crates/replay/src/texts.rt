@@ -1,8 +1,10 @@
 // Rows `K "TEXT" DATE`: what a kind reads a text as.
 ghost use mathlib.Core.Path.{_≡_};
+ghost use Prim.Native.Nat.{_≤_};
+ghost use lib.ListN.{length, take};
 ghost use Rattle.rules.specs.Kinds.{kR, kD, kH, kU, kE, kV};
-ghost use Rattle.replay.specs.Verdicts.{unaskedTold};
-ghost use Rattle.replay.specs.Asked.{oneOf, allKinds, textAsked};
+ghost use Rattle.replay.specs.Asked.{textAsked, textsAsked};
+ghost use Rattle.replay.specs.Judged.{textsJudged};
 ghost use Rattle.replay.specs.Views.{told};
 use crate::Verdict;
 use crate::Way;
@@ -90,7 +92,7 @@ fn vic3(text: &[u8]) -> Said
 
 // What the kind of a letter answers.
 fn asked(kind: u8, text: &[u8]) -> Said
-    ensures { λ r. ⌜ told r ≡ oneOf allKinds (λ k. textAsked k (now (text .entry))) unaskedTold kind ⌝ }
+    ensures { λ r. ⌜ told r ≡ textsAsked kind (now (text .entry)) ⌝ }
 {
     match kind {
         b'R' => raw(text),
@@ -103,19 +105,24 @@ fn asked(kind: u8, text: &[u8]) -> Said
     }
 }
 
-// The same for the first bytes of a text.
-fn asked_first(kind: u8, text: &[u8], len: usize) -> Said {
-    if len <= text.len() {
-        return asked(kind, &text[..len]);
-    }
-    unasked()
+// The same for the first bytes of a buffer.
+fn asked_first(kind: u8, text: &[u8], len: usize) -> Said
+    requires { ⌜ len ≤ length (now text) ⌝ }
+    ensures { λ r. ⌜ told r ≡ textsAsked kind (take len (now (text .entry))) ⌝ }
+{
+    asked(kind, &text[..len])
 }
 
-fn asked_part(kind: u8, text: &[u8; 16], len: usize) -> Said {
+fn asked_part(kind: u8, text: &[u8; 16], len: usize) -> Said
+    requires { ⌜ len ≤ 16 ⌝ }
+    ensures { λ r. ⌜ told r ≡ textsAsked kind (take len (now (text .entry))) ⌝ }
+{
     asked_first(kind, text, len)
 }
 
-pub(crate) fn judged(row: &[u8]) -> Verdict {
+pub(crate) fn judged(row: &[u8]) -> Verdict
+    ensures { λ r. ⌜ r ≡ textsJudged (now (row .entry)) ⌝ }
+{
     let mut text = [0u8; 16];
     let q = quoted::text(row, rows::after(row, 1, b' '), &mut text);
     let len = q.len;

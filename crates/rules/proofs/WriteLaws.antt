@@ -88,3 +88,12 @@ wrote-whole {t} {l₀} {l} {n} w =
 pub wrote-short : (t l₀ : List ℕ) → length l₀ < length t → Put t l₀ (Refused bufferShort) l₀
 unfolding putAnswer putBuffer
 wrote-short t l₀ h = record { answered = rw (lt-leb _ _ h); holds = rw (lt-leb _ _ h) }
+
+-- the text at the front, and the rest as it was
+pub wrote-placed : {t l₀ l : List ℕ} {n : ℕ} → Wrote t n l₀ l → l ≡ t ++ drop (length t) l₀
+wrote-placed w = rw (w .long) at (w .is)
+
+-- a byte, and after it what a callee wrote in the tail from 1 on
+pub wrote-marked : (l₀ u : List ℕ) {ys : List ℕ} (b n : ℕ) → n ≡ length (b ∷ u) → n ≤ length l₀ → ys ≡ u ++ drop (length u) (take (length l₀ - 1) (drop 1 l₀))
+    → Wrote (b ∷ u) n l₀ (set (putMid 1 (length l₀ - 1) l₀ ys) 0 b)
+wrote-marked l₀ u b n k r e = wrote (b ∷ u) l₀ k r (marked-tail l₀ u _ b (omega arith) e)

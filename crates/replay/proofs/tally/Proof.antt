@@ -3,32 +3,31 @@
 use borrow.Author.Needs.{needs}
 use native.Mathlib.Omega.{arith}
 use mathlib.Core.Path.{_≡_, refl, sym, _∙_}
-use mathlib.Core.Bool.{true}
 use Prim.Native.Nat.{_≤_, _-_}
 use lib.ListN.{length, drop}
 use Rattle.replay.specs.Rows.{rowsOf}
-use Rattle.replay.specs.Judged.{defined, withRowOf, rowByRow, tallyOf}
+use Rattle.replay.specs.Judged.{withRowOf, rowByRow, tallyOf}
 use Rattle.replay.proofs.FileLaws.{row-by-row, rows-over}
 use Rattle.replay.proofs.tally.Statement.{statement}
 use Rattle.replay.proofs.tally.Tie as tie
 
 abbrev Inv-loop : tie.InvT-loop
 Inv-loop way s kind mark t₀ at₀ t at =
-    (defined way ≡ true → rowByRow (withRowOf way kind mark) t (rowsOf (drop at s)) ≡ tallyOf way s kind mark) × (at ≤ length s) × (t .rows ≤ at) × (t .wrong ≤ at) × (t .unread ≤ at)
+    (rowByRow (withRowOf way kind mark) t (rowsOf (drop at s)) ≡ tallyOf way s kind mark) × (at ≤ length s) × (t .rows ≤ at) × (t .wrong ≤ at) × (t .unread ≤ at)
 
 abbrev μ-loop : tie.MeasureT-loop
 μ-loop way s kind mark t₀ at₀ t at = length s - at
 
 loop-holds : tie.Need-loop-holds Inv-loop μ-loop
 unfolding tallyOf
-loop-holds c = (λ e. refl, omega arith, omega arith, omega arith, omega arith)
+loop-holds c = (refl, omega arith, omega arith, omega arith, omega arith)
 
 loop-again : tie.Need-loop-again Inv-loop μ-loop
 loop-again c =
-    let w = c .with-row .ensures in (λ e. rw (w .0 e) (sym (row-by-row _ (c .before .before .before .before .loop .t) (c .before .before .before .before .before .before .args .s .now) (c .before .before .before .before .loop .at) (c .before .before .next-line .result) (c .before .before .before .loop-test .taken) (c .before .before .next-line .ensures .1)) ∙ c .before .before .before .before .loop .inv .0 e), omega arith, omega (arith, w .1, c .before .before .next-line .ensures .0), omega (arith, w .1, c .before .before .next-line .ensures .0), omega (arith, w .1, c .before .before .next-line .ensures .0))
+    let w = c .with-row .ensures in (rw (w .0) (sym (row-by-row _ (c .before .before .before .before .loop .t) (c .before .before .before .before .before .before .args .s .now) (c .before .before .before .before .loop .at) (c .before .before .next-line .result) (c .before .before .before .loop-test .taken) (c .before .before .next-line .ensures .1)) ∙ c .before .before .before .before .loop .inv .0), omega arith, omega (arith, w .1, c .before .before .next-line .ensures .0), omega (arith, w .1, c .before .before .next-line .ensures .0), omega (arith, w .1, c .before .before .next-line .ensures .0))
 
 returns : tie.Need-returns Inv-loop μ-loop
-returns c = λ e. sym (rows-over _ _ _ _ (c .loop-test .left)) ∙ c .before .loop .inv .0 e
+returns c = sym (rows-over _ _ _ _ (c .loop-test .left)) ∙ c .before .loop .inv .0
 
 pub tally-spec : {M : Type 1} → statement M
 tally-spec =

@@ -8,11 +8,11 @@ use Rattle.replay.proofs.with_row.Tie as tie
 returns : tie.Need-returns
 unfolding withRowOf
 returns c =
-    (λ e. rw (c .counted .ensures .0, c .before .judged .ensures e, ← (c .before .before .before .picked .ensures), c .before .before .if1 .taken), c .counted .ensures .1)
+    (rw (c .counted .ensures .0, c .before .judged .ensures, ← (c .before .before .before .picked .ensures), c .before .before .if1 .taken), c .counted .ensures .1)
 
 returns-2 : tie.Need-returns-2
 unfolding withRowOf
-returns-2 c = (λ e. rw (← (c .before .picked .ensures), c .if1 .left), (omega arith, omega arith, omega arith))
+returns-2 c = (rw (← (c .before .picked .ensures), c .if1 .left), (omega arith, omega arith, omega arith))
 
 pub with-row-spec : {M : Type 1} → statement M
 with-row-spec =

@@ -8,14 +8,14 @@ use Rattle.replay.proofs.answers.refusal.Tie as tie
 returns : tie.Need-returns
 unfolding refusalOf
 returns c =
-    rw (← (c .before .before .after-word .ensures), ← (c .before .natural .ensures), le-leb _ _ (c .if1 .taken))
+    rw (← (c .before .before .after-refused .ensures), ← (c .before .natural .ensures), le-leb _ _ (c .if1 .taken))
 
 returns-2 : tie.Need-returns-2
 unfolding refusalOf
 returns-2 c =
-    rw (c .no-answer .ensures, ← (c .before .before .before .after-word .ensures), ← (c .before .before .natural .ensures), lt-leb _ _ (c .before .if1 .left))
+    rw (c .no-answer .ensures, ← (c .before .before .before .after-refused .ensures), ← (c .before .before .natural .ensures), lt-leb _ _ (c .before .if1 .left))
 
 pub refusal-spec : {M : Type 1} → statement M
 refusal-spec =
     tie.close
-    (tie.spec (λ c. search needs) (λ c κs. search needs) (λ c κs. search needs) (λ c. search needs) returns (λ c κs. search needs) returns-2)
+    (tie.spec (λ c κs. search needs) (λ c κs. search needs) (λ c. search needs) returns (λ c κs. search needs) returns-2)

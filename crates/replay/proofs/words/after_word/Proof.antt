@@ -1,4 +1,4 @@
--- `replay::rows::after_word` meets its contract. The invariant: what follows the rest of the word from here is what is to be
+-- `replay::words::after_word` meets its contract. The invariant: what follows the rest of the word from here is what is to be
 -- answered. The measure is how many bytes of the word are left. Assumes nothing.
 use borrow.Author.Needs.{needs}
 use native.Mathlib.Omega.{arith}
@@ -9,8 +9,8 @@ use lib.ListN.{length, drop}
 use Rattle.rules.proofs.Rests.{past}
 use Rattle.replay.specs.Rows.{afterWord}
 use Rattle.replay.proofs.Laws.{word-goes-on}
-use Rattle.replay.proofs.rows.after_word.Statement.{statement}
-use Rattle.replay.proofs.rows.after_word.Tie as tie
+use Rattle.replay.proofs.words.after_word.Statement.{statement}
+use Rattle.replay.proofs.words.after_word.Tie as tie
 
 abbrev Inv-loop : tie.InvT-loop
 Inv-loop s at word i₀ place₀ i place = (afterWord (drop i word) (drop place s) ≡ afterWord word (drop at s)) × (i ≤ length word)
@@ -23,15 +23,11 @@ loop-holds c = (refl, omega arith)
 
 loop-again : tie.Need-loop-again Inv-loop μ-loop
 loop-again c =
-    let given = c .before .before .before .before .before .before .args in
-    let l = c .before .before .before .loop in
-    (ap (afterWord (drop (l .i + 1) (given .word .now))) (c .after .ensures) ∙ sym (word-goes-on (given .word .now) (l .i) (drop (l .place) (given .s .now)) (c .before .before .loop-test .taken)) ∙ l .inv .0, omega arith)
+    (ap (afterWord (drop (c .before .before .before .loop .i + 1) (c .before .before .before .before .before .before .args .word .now))) (c .after .ensures) ∙ sym (word-goes-on (c .before .before .before .before .before .before .args .word .now) (c .before .before .before .loop .i) (drop (c .before .before .before .loop .place) (c .before .before .before .before .before .before .args .s .now)) (c .before .before .loop-test .taken)) ∙ c .before .before .before .loop .inv .0, omega arith)
 
 returns : tie.Need-returns Inv-loop μ-loop
 returns c =
-    let given = c .before .before .before .before .args in
-    let l = c .before .loop in
-    ap (λ (w : List ℕ). afterWord w (drop (l .place) (given .s .now))) (sym (past (given .word .now) (l .i) (c .loop-test .left))) ∙ l .inv .0
+    ap (λ (w : List ℕ). afterWord w (drop (c .before .loop .place) (c .before .before .before .before .args .s .now))) (sym (past (c .before .before .before .before .args .word .now) (c .before .loop .i) (c .loop-test .left))) ∙ c .before .loop .inv .0
 
 pub after-word-spec : {M : Type 1} → statement M
 after-word-spec =

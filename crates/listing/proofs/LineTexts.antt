@@ -1,0 +1,65 @@
+-- The printed lines byte by byte. Assumes nothing.
+use mathlib.Core.Path.{_≡_, refl, sym, ap, subst}
+use mathlib.Core.Bool.{Bool, true, false}
+use mathlib.Core.List.{List, [], _∷_, _++_}
+use Prim.Native.Nat.{ℕ, _%_, _≤_, _<_}
+use native.Mathlib.Omega.{arith}
+use borrow.Author.Tests.{le-leb}
+use lib.Dec.{T, eqb}
+use lib.IntN.{ℤ}
+use lib.ListN.{length, drop}
+use Rattle.rules.specs.Words.{bytes}
+use Rattle.rules.specs.Refusals.{Gives, _then_, demand, given, notOfKind}
+use Rattle.rules.specs.Kinds.{Kind, Fields, ofKind, made, unpacked, handedIn}
+use Rattle.rules.specs.Spelling.{digit, putAnswer, putBuffer}
+use Rattle.rules.specs.Listing.{refusedText, lineEnd}
+use Rattle.rules.proofs.DecimalLaws.{one-digit}
+use Rattle.rules.proofs.PackLaws.{handed-tells}
+use Rattle.rules.proofs.ReadBack.{backOne}
+use Rattle.formatter.specs.declared.Spelled.{Spelled}
+use Rattle.formatter.specs.declared.Spelled.the-variants as W
+use Rattle.formatter.specs.Views.{spelled, lengthOf}
+use Rattle.formatter.proofs.Texts.{Done}
+
+-- a refusal of one digit
+pub refusal-line : (front n : ℕ) → n < 10 → refusedText front n ++ lineEnd ≡ (front ∷ bytes " refused ") ++ digit n ∷ [] ++ 10 ∷ []
+refusal-line front n h = rw (one-digit n h)
+
+-- a text placed in a buffer, under another name of it
+pub placed-as : (l : List ℕ) {t u : List ℕ} → t ≡ u → u ++ drop (length u) l ≡ t ++ drop (length t) l
+placed-as l e = ap (λ (x : List ℕ). x ++ drop (length x) l) (sym e)
+
+-- ---- a text of a date of the kind, in a buffer with room for it
+
+-- the fields that a date of the kind gives are its bits' own
+pub own-fields : (k : Kind) (y : ℤ) (w : ℕ) → given (handedIn k y w) ≡ true → handedIn k y w ≡ Gives (unpacked y w)
+unfolding handedIn made
+own-fields k y w e = split (eqb (w % 4) 0) (ofKind k (unpacked y w)) e
+  where
+    split : (s t : Bool) → given (demand s notOfKind (demand t notOfKind (Gives (unpacked y w)))) ≡ true
+        → demand s notOfKind (demand t notOfKind (Gives (unpacked y w))) ≡ Gives (unpacked y w)
+    split true true e = refl
+    split true false e = absurd (subst T (sym e) tt)
+    split false t e = absurd (subst T (sym e) tt)
+
+length-told : (r : Spelled) (n : ℕ) → spelled r ≡ Gives n → lengthOf r ≡ n
+length-told (W.Length m) n e = ap (backOne (λ (x : ℕ). x) 0) e
+length-told W.NotOfKind n e = ap (backOne (λ (x : ℕ). x) 0) e
+length-told W.Short n e = ap (backOne (λ (x : ℕ). x) 0) e
+
+-- what the writer of a text of at most 15 bytes answers then, and what the buffer holds
+pub record Fits (t l₀ : List ℕ) (r : Spelled) (l : List ℕ) : Type 0 where
+  pub answered : (lengthOf r ≡ length t) × (lengthOf r ≤ 15)
+  pub holds : l ≡ t ++ drop (length t) l₀
+
+pub fits : (k : Kind) (y : ℤ) (w : ℕ) (texts : Fields → List ℕ) (l₀ l : List ℕ) (r : Spelled) → given (handedIn k y w) ≡ true
+    → 15 ≤ length l₀ → (ofKind k (unpacked y w) ≡ true → length (texts (unpacked y w)) ≤ 15)
+    → Done (handedIn k y w then λ f. Gives (texts f)) l₀ r l → Fits (texts (unpacked y w)) l₀ r l
+unfolding putAnswer putBuffer
+fits k y w texts l₀ l r g room short d =
+    let e = own-fields k y w g in
+    let s = short (handed-tells k y w (unpacked y w) e .of-kind) in
+    let n = length (texts (unpacked y w)) in
+    let test = le-leb n (length l₀) (omega arith) in
+    let told = length-told r n (rw (e, test) at (d .0)) in
+    record { answered = (told, omega arith); holds = rw (e, test) at (d .1 .0) }

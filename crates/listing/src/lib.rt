@@ -1,0 +1,2 @@
+// The listing.
+mod output;

@@ -1,0 +1,93 @@
+// What a line prints, at the front of a lent buffer.
+ghost use mathlib.Core.Path.{_≡_};
+ghost use mathlib.Core.Bool.{true};
+ghost use mathlib.Core.List.{_++_};
+ghost use Prim.Native.Nat.{_≤_, _<_};
+ghost use lib.ListN.{length};
+ghost use Rattle.rules.specs.Refusals.{given};
+ghost use Rattle.rules.specs.Kinds.{unpacked, handedIn};
+ghost use Rattle.rules.specs.Spelling.{dotted, iso};
+ghost use Rattle.rules.specs.Listing.{letter, refusedText, lineEnd};
+ghost use Rattle.expanded.specs.Views.{kindOf};
+ghost use Rattle.formatter.specs.Pieces.{placed};
+ghost use Rattle.listing.specs.Views.{dateLine};
+use expanded::Kind;
+use expanded::Packed;
+use formatter::Spelled;
+
+// Room for every line that is printed.
+pub(crate) const ROOM: usize = 40;
+
+// The byte that ends a line.
+const LINE_END: u8 = 10;
+
+// The letter of a kind.
+pub(crate) fn letter(kind: Kind) -> u8
+    ensures { λ r. ⌜ r ≡ letter (kindOf kind) ⌝ }
+{
+    match kind {
+        Kind::Raw => b'R',
+        Kind::Date => b'D',
+        Kind::Hour => b'H',
+        Kind::Uniform => b'U',
+        Kind::Eu5 => b'E',
+        Kind::Vic3 => b'V',
+    }
+}
+
+// The fixed word between the letter and the number of a refusal.
+pub(crate) fn put_refused(out: &mut [u8], front: u8, n: u8) -> usize
+    requires { ⌜ (n < 10) × (40 ≤ length (now out)) ⌝ }
+    ensures { λ r. ⌜ r ≡ length (refusedText front n ++ lineEnd) ⌝ }
+    ensures { λ _. ⌜ now (out .exit) ≡ placed (refusedText front n ++ lineEnd) (now (out .entry)) ⌝ }
+{
+    bytes::copy(b" refused ", &mut out[1..]);
+    out[0] = front;
+    out[10] = b'0' + n;
+    out[11] = LINE_END;
+    12
+}
+
+// The dotted text of a date of the kind.
+fn put_dotted(out: &mut [u8], kind: Kind, date: Packed) -> usize
+    requires { ⌜ (15 ≤ length (now out)) × (given (handedIn (kindOf kind) (date .year) (date .word)) ≡ true) ⌝ }
+    ensures { λ r. ⌜ (r ≡ length (dotted (kindOf kind) (unpacked (date .year) (date .word)))) × (r ≤ 15) ⌝ }
+    ensures { λ _. ⌜ now (out .exit) ≡ placed (dotted (kindOf kind) (unpacked (date .year) (date .word))) (now (out .entry)) ⌝ }
+{
+    let text = formatter::game_fmt(kind, date, out);
+    match text {
+        Spelled::Length(n) => n,
+        Spelled::NotOfKind => 0,
+        Spelled::Short => 0,
+    }
+}
+
+// The ISO text of a date of the kind.
+fn put_iso(out: &mut [u8], kind: Kind, date: Packed) -> usize
+    requires { ⌜ (15 ≤ length (now out)) × (given (handedIn (kindOf kind) (date .year) (date .word)) ≡ true) ⌝ }
+    ensures { λ r. ⌜ (r ≡ length (iso (kindOf kind) (unpacked (date .year) (date .word)))) × (r ≤ 15) ⌝ }
+    ensures { λ _. ⌜ now (out .exit) ≡ placed (iso (kindOf kind) (unpacked (date .year) (date .word))) (now (out .entry)) ⌝ }
+{
+    let text = formatter::iso_8601(kind, date, out);
+    match text {
+        Spelled::Length(n) => n,
+        Spelled::NotOfKind => 0,
+        Spelled::Short => 0,
+    }
+}
+
+// Letter, dotted text and ISO text of a date of the kind.
+pub(crate) fn put_date(out: &mut [u8], kind: Kind, date: Packed) -> usize
+    requires { ⌜ (40 ≤ length (now out)) × (given (handedIn (kindOf kind) (date .year) (date .word)) ≡ true) ⌝ }
+    ensures { λ r. ⌜ (r ≡ length (dateLine (kindOf kind) (unpacked (date .year) (date .word)))) × (r ≤ 40) ⌝ }
+    ensures { λ _. ⌜ now (out .exit) ≡ placed (dateLine (kindOf kind) (unpacked (date .year) (date .word))) (now (out .entry)) ⌝ }
+{
+    out[0] = letter(kind);
+    out[1] = b' ';
+    let space = 2 + put_dotted(&mut out[2..], kind, date);
+    out[space] = b' ';
+    let iso_at = space + 1;
+    let end = iso_at + put_iso(&mut out[iso_at..], kind, date);
+    out[end] = LINE_END;
+    end + 1
+}

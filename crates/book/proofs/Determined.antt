@@ -5,12 +5,9 @@ use mathlib.Core.Bool.{cond}
 use Prim.Native.Nat.{ℕ}
 use lib.Dec.{eqb}
 use Rattle.rules.specs.Refusals.{Answer, Gives, Refused, RefusedAt, notOfKind, badLength, badVersion}
-use Rattle.rules.specs.Kinds as K
 use Rattle.rules.proofs.ReadBack.{Determines, determined, backOne}
 use Rattle.expanded.specs.declared.Kind.{Kind}
-use Rattle.expanded.specs.declared.Kind.the-variants as E
-use Rattle.expanded.specs.Views.{kindOf}
-use Rattle.expanded.proofs.Determined.{packedOf}
+use Rattle.expanded.proofs.Determined.{packedOf, kindBack, kind-back}
 use Rattle.book.specs.declared.Checked.the-variants as C
 use Rattle.book.specs.declared.Found.{Found}
 use Rattle.book.specs.declared.Found.the-variants as F
@@ -38,17 +35,6 @@ appended-determined =
     (λ r. elim r [ A.At n ↦ refl | A.NotOfKind ↦ refl | A.BadLength ↦ refl | A.BadVersion ↦ refl | A.BadRecord place ↦ refl | A.NoRoom ↦ refl ])
 
 -- ---- a record found, by its kind and its bits
-
-abbrev kindBack : K.Kind → Kind
-kindBack K.kR = E.Raw
-kindBack K.kD = E.Date
-kindBack K.kH = E.Hour
-kindBack K.kU = E.Uniform
-kindBack K.kE = E.Eu5
-kindBack K.kV = E.Vic3
-
-kind-back : (k : Kind) → kindBack (kindOf k) ≡ k
-kind-back k = elim k [ E.Raw ↦ refl | E.Date ↦ refl | E.Hour ↦ refl | E.Uniform ↦ refl | E.Eu5 ↦ refl | E.Vic3 ↦ refl ]
 
 abbrev foundBack : Answer Bits → Found
 foundBack = backBook (λ (b : Bits). F.Record (kindBack (b .kind)) (packedOf (b .date))) F.BadLength F.BadVersion (λ n. F.NoRecord) F.BadRecord

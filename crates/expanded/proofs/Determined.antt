@@ -1,18 +1,21 @@
 -- Each answer is determined: two that a contract allows are equal, since the view that the contract names can be read back.
 -- Assumes nothing.
-use mathlib.Core.Path.{refl}
+use mathlib.Core.Path.{_≡_, refl}
 use Prim.Native.Nat.{ℕ}
 use Rattle.rules.specs.Kinds.{Fields, Stored}
+use Rattle.rules.specs.Kinds as K
 use Rattle.rules.specs.Days as D
 use Rattle.rules.specs.Refusals.{notOfKind}
 use Rattle.rules.proofs.ReadBack.{Determines, DeterminesEach, determined, determined-at, backOne}
+use Rattle.expanded.specs.declared.Kind.{Kind}
+use Rattle.expanded.specs.declared.Kind.the-variants as C
 use Rattle.expanded.specs.declared.ExpandedRawDate.{ExpandedRawDate}
 use Rattle.expanded.specs.declared.Packed.{Packed}
 use Rattle.expanded.specs.declared.Made.the-variants as M
 use Rattle.expanded.specs.declared.Opened.the-variants as O
 use Rattle.expanded.specs.declared.Ordered.{Ordered}
 use Rattle.expanded.specs.declared.Ordered.the-variants as R
-use Rattle.expanded.specs.Views.{answer, opened, ordered}
+use Rattle.expanded.specs.Views.{kindOf, answer, opened, ordered}
 
 -- the code's structs of what `rules` has: the way back of `bitsOf` and `fieldsOf`
 abbrev pub packedOf : Stored → Packed
@@ -20,6 +23,18 @@ packedOf d = record { year = d .year; word = d .word }
 
 abbrev pub expandedOf : Fields → ExpandedRawDate
 expandedOf f = record { year = f .year; month = f .month; day = f .day; hour = f .hour }
+
+-- the kinds, back too
+abbrev pub kindBack : K.Kind → Kind
+kindBack K.kR = C.Raw
+kindBack K.kD = C.Date
+kindBack K.kH = C.Hour
+kindBack K.kU = C.Uniform
+kindBack K.kE = C.Eu5
+kindBack K.kV = C.Vic3
+
+pub kind-back : (k : Kind) → kindBack (kindOf k) ≡ k
+kind-back k = elim k [ C.Raw ↦ refl | C.Date ↦ refl | C.Hour ↦ refl | C.Uniform ↦ refl | C.Eu5 ↦ refl | C.Vic3 ↦ refl ]
 
 pub answer-determined : (n : ℕ) → Determines (answer n)
 answer-determined n = determined (answer n) (backOne (λ d. M.Date (packedOf d)) M.None) (λ r. elim r [ M.Date d ↦ refl | M.None ↦ refl ])

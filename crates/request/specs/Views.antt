@@ -1,0 +1,66 @@
+-- The answers of the code, as those of `rules`. Assumes nothing.
+use Prim.Native.Nat.{ℕ}
+use mathlib.Core.Bool.{Bool, true}
+use mathlib.Core.List.{List}
+use lib.IntN.{ℤ}
+use lib.ListN.{drop}
+use Rattle.rules.specs.Refusals.{Answer, Gives, Refused, notText, unreadableLine}
+use Rattle.rules.specs.Kinds as K
+use Rattle.rules.specs.Listing as L
+use Rattle.expanded.specs.Views.{kindOf, bitsOf}
+use Rattle.request.specs.declared.Way.{Way}
+use Rattle.request.specs.declared.Way.the-variants as W
+use Rattle.request.specs.declared.Request.{Request}
+use Rattle.request.specs.declared.Request.the-variants as R
+use Rattle.request.specs.declared.Asked.{Asked}
+use Rattle.request.specs.declared.Asked.the-variants as A
+use Rattle.request.specs.declared.line.Lettered.{Lettered}
+use Rattle.request.specs.declared.line.Lettered.the-variants as T
+use Rattle.request.specs.declared.line.Marked.{Marked}
+use Rattle.request.specs.declared.line.Marked.the-variants as M
+use Rattle.request.specs.declared.numeral.Numeral.{Numeral}
+use Rattle.request.specs.declared.numeral.Numeral.the-variants as N
+
+-- ---- a line read
+
+abbrev pub wayOf : Way → L.Way
+wayOf W.Text = L.byText
+wayOf W.Number = L.byNumber
+wayOf W.Guess = L.byGuess
+
+abbrev pub lettered : Lettered → Answer K.Kind
+lettered (T.Kind k) = Gives (kindOf k)
+lettered T.None = Refused unreadableLine
+
+abbrev pub marked : Marked → Answer L.Way
+marked (M.Way w) = Gives (wayOf w)
+marked M.None = Refused unreadableLine
+
+-- what the line s asks for
+abbrev pub asks : List ℕ → Request → Answer L.Line
+asks s (R.Ask k w) = Gives (record { kind = kindOf k; way = wayOf w; rest = drop 4 s })
+asks s R.Unreadable = Refused unreadableLine
+
+-- for the callers: the kind that is asked for has that way, and the rest starts within the line
+abbrev pub hasWayIn : Request → Bool
+hasWayIn (R.Ask k w) = L.hasWay (kindOf k) (wayOf w)
+hasWayIn R.Unreadable = true
+
+abbrev pub restAt : Request → ℕ
+restAt (R.Ask k w) = 4
+restAt R.Unreadable = 0
+
+-- ---- its number, and its date
+
+abbrev pub numeralOf : Numeral → Answer ℤ
+numeralOf (N.Value n) = Gives n
+numeralOf N.None = Refused notText
+
+abbrev pub asked : Asked → Answer K.Stored
+asked (A.Date p) = Gives (bitsOf p)
+asked (A.Refused n) = Refused n
+
+-- for the callers: the refusal's number
+abbrev pub refusalIn : Asked → ℕ
+refusalIn (A.Date p) = 0
+refusalIn (A.Refused n) = n

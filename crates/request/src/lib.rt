@@ -20,11 +20,16 @@ pub use numeral::number;
 mod line;
 mod numeral;
 
-// The refusals of a line's date: a text of over 16 bytes, a text not of the kind, no such number after way b or g, a number that
-// is no date.
+// The refusals of a line's date. A text of over 16 bytes:
 const TOO_LONG: u8 = 1;
+
+// a text not of the kind:
 const NOT_TEXT: u8 = 2;
+
+// no such number after way b or g:
 const NO_NUMERAL: u8 = 2;
+
+// a number that is no date, or that the guess refuses.
 const NOT_NUMBER: u8 = 3;
 
 // How the rest of a line is read: as text, as a number by the full decoder, as a number by the guess.

@@ -38,7 +38,7 @@ pub(crate) fn letter(kind: Kind) -> u8
 // The fixed word between the letter and the number of a refusal.
 pub(crate) fn put_refused(out: &mut [u8], front: u8, n: u8) -> usize
     requires { ⌜ (n < 10) × (40 ≤ length (now out)) ⌝ }
-    ensures { λ r. ⌜ r ≡ length (refusedText front n ++ lineEnd) ⌝ }
+    ensures { λ r. ⌜ (r ≡ length (refusedText front n ++ lineEnd)) × (r ≤ 40) ⌝ }
     ensures { λ _. ⌜ now (out .exit) ≡ placed (refusedText front n ++ lineEnd) (now (out .entry)) ⌝ }
 {
     bytes::copy(b" refused ", &mut out[1..]);

@@ -3,6 +3,7 @@ use mathlib.Core.Path.{refl, _∙_}
 use native.Mathlib.Omega.{arith}
 use borrow.Author.Needs.{needs}
 use denote.Ref.{now}
+use lib.Dec.{lit≤}
 use Rattle.rules.specs.Words.{bytes}
 use Rattle.rules.specs.Spelling.{digit}
 use Rattle.rules.proofs.DecimalLaws.{one-digit}
@@ -23,7 +24,7 @@ returns : tie.Need-returns
 returns c =
     let w = wrote-marked (now (c .before .before .before .before .before .before .args .out)) (bytes " refused ") (c .before .before .before .before .before .before .args .front) 10 refl (omega arith) (c .before .before .copy .ensures .1) in
     let all = wrote-byte 10 (wrote-byte (digit (c .before .before .before .before .before .before .args .n)) w (omega arith)) (omega arith) in
-    (rw (one-digit _ (c .before .before .before .before .before .before .pre .0)), wrote-placed all ∙ placed-as (now (c .before .before .before .before .before .before .args .out)) (refusal-line _ _ (c .before .before .before .before .before .before .pre .0)))
+    ((rw (one-digit _ (c .before .before .before .before .before .before .pre .0)), lit≤ tt), wrote-placed all ∙ placed-as (now (c .before .before .before .before .before .before .args .out)) (refusal-line _ _ (c .before .before .before .before .before .before .pre .0)))
 
 pub put-refused-spec : {M : Type 1} → statement M
 put-refused-spec =

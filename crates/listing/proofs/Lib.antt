@@ -1,2 +1,3 @@
 pub mod LineTexts
 pub mod Requests
+pub mod Determined

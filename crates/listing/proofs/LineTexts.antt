@@ -1,5 +1,5 @@
 -- The printed lines byte by byte. Assumes nothing.
-use mathlib.Core.Path.{_≡_, refl, sym, ap, subst}
+use mathlib.Core.Path.{_≡_, refl, sym, ap, subst, _∙_}
 use mathlib.Core.Bool.{Bool, true, false}
 use mathlib.Core.List.{List, [], _∷_, _++_}
 use Prim.Native.Nat.{ℕ, _%_, _≤_, _<_}
@@ -7,7 +7,9 @@ use native.Mathlib.Omega.{arith}
 use borrow.Author.Tests.{le-leb}
 use lib.Dec.{T, eqb}
 use lib.IntN.{ℤ}
-use lib.ListN.{length, drop}
+use lib.ListN.{length, take, drop}
+use lib.Seq.{take-at, take-all}
+use native.Mathlib.Nat.{le-refl}
 use Rattle.rules.specs.Words.{bytes}
 use Rattle.rules.specs.Refusals.{Gives, _then_, demand, given, notOfKind}
 use Rattle.rules.specs.Kinds.{Kind, Fields, ofKind, made, unpacked, handedIn}
@@ -63,3 +65,11 @@ fits k y w texts l₀ l r g room short d =
     let test = le-leb n (length l₀) (omega arith) in
     let told = length-told r n (rw (e, test) at (d .0)) in
     record { answered = (told, omega arith); holds = rw (e, test) at (d .1 .0) }
+
+-- ---- a text that was built in a room of its own, and copied
+
+pub taken : (t r l : List ℕ) (n : ℕ) → n ≡ length t → l ≡ t ++ r → take n l ≡ t
+taken t r l n k e = ap (take n) e ∙ take-at t r n (sym k)
+
+pub copied : (t source l₀ l : List ℕ) → source ≡ t → l ≡ take (length source) source ++ drop (length source) l₀ → l ≡ t ++ drop (length t) l₀
+copied t source l₀ l p q = (rw p at q) ∙ ap (λ (x : List ℕ). x ++ drop (length t) l₀) (take-all (length t) t (le-refl (length t)))

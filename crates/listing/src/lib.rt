@@ -2,12 +2,21 @@
 ghost use mathlib.Core.Path.{_≡_};
 ghost use Prim.Native.Nat.{_≤_};
 ghost use lib.ListN.{length};
+ghost use Rattle.rules.specs.Refusals.{Gives};
+ghost use Rattle.rules.specs.Spelling.{putAnswer, putBuffer};
 ghost use Rattle.rules.specs.Listing.{lineOutput};
 ghost use Rattle.formatter.specs.Pieces.{placed};
+ghost use Rattle.listing.specs.Answers.{listed, lengthOf};
 use request::Asked;
 use request::Request;
 
 mod output;
+
+// The length of what was written, or that the buffer is shorter than it.
+pub enum Listed {
+    Length(usize),
+    Short,
+}
 
 // The refusal of a line that cannot be read.
 const UNREADABLE: u8 = 8;
@@ -29,4 +38,19 @@ fn build(s: &[u8], out: &mut [u8]) -> usize
         }
         Request::Unreadable => output::put_refused(out, b'?', UNREADABLE),
     }
+}
+
+// What one line prints, its end included, at the front of a buffer; nothing where the buffer is shorter.
+pub fn line(s: &[u8], out: &mut [u8]) -> Listed
+    ensures { λ r. ⌜ listed r ≡ putAnswer (Gives (lineOutput (now (s .entry)))) (now (out .entry)) ⌝ }
+    ensures { λ _. ⌜ now (out .exit) ≡ putBuffer (Gives (lineOutput (now (s .entry)))) (now (out .entry)) ⌝ }
+    ensures { λ r. ⌜ lengthOf r ≤ length (now (out .entry)) ⌝ }
+{
+    let mut room = [0u8; 40];
+    let n = build(s, &mut room);
+    if out.len() < n {
+        return Listed::Short;
+    }
+    bytes::copy(&room[..n], out);
+    Listed::Length(n)
 }

@@ -15,9 +15,6 @@ use expanded::Kind;
 use expanded::Packed;
 use formatter::Spelled;
 
-// Room for every line that is printed.
-pub(crate) const ROOM: usize = 40;
-
 // The byte that ends a line.
 const LINE_END: u8 = 10;
 

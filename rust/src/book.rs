@@ -1,0 +1,121 @@
+//! Books: dates of all kinds in one buffer. Not in jomini.
+//!
+//! Four bytes of length, a version, records of five bytes; at most 4,096 of them. A book fills the first bytes of its
+//! buffer, and an append uses the five after it. A refusal changes no byte.
+//!
+//! ```
+//! use pennyquill::{Date, Refusal, Vic3Date, book};
+//! let mut buffer = [0; book::ROOM];
+//! book::new(&mut buffer)?;
+//! let date = Date::parse("1444.11.11")?;
+//! assert_eq!(book::append(&mut buffer, &date)?, 0);
+//! assert_eq!(book::append(&mut buffer, &Vic3Date::parse("1836.2.3.6")?)?, 1);
+//! assert_eq!(book::check(&buffer)?, 2);
+//! assert_eq!(book::record(&buffer, 0)?, book::Record::D(date));
+//! assert_eq!(book::record(&buffer, 2), Err(Refusal::NoRecord));
+//! # Ok::<(), Refusal>(())
+//! ```
+
+use crate::bits::given;
+use crate::ffi;
+use crate::refusal::Refusal;
+use crate::{Date, DateHour, Eu5Date, PdsDate, RawDate, UniformDate, Vic3Date};
+
+/// The bytes of a book of 4,096 records, which is the longest.
+pub const ROOM: usize = 20_485;
+
+/// A date of any kind, as a book has it.
+#[derive(Clone, Copy, Debug, PartialEq, Eq, Hash)]
+pub enum Record {
+    R(RawDate),
+    D(Date),
+    H(DateHour),
+    U(UniformDate),
+    E(Eu5Date),
+    V(Vic3Date),
+}
+
+impl Record {
+    fn from_bits(kind: u32, bits: u32) -> Result<Record, Refusal> {
+        match kind {
+            RawDate::KIND => RawDate::from_bits(bits).map(Record::R),
+            Date::KIND => Date::from_bits(bits).map(Record::D),
+            DateHour::KIND => DateHour::from_bits(bits).map(Record::H),
+            UniformDate::KIND => UniformDate::from_bits(bits).map(Record::U),
+            Eu5Date::KIND => Eu5Date::from_bits(bits).map(Record::E),
+            Vic3Date::KIND => Vic3Date::from_bits(bits).map(Record::V),
+            _ => unreachable!("a book has no kind {kind}"),
+        }
+    }
+}
+
+/// Writes an empty book into the first five bytes of a buffer. Refusal 12 where there are fewer.
+///
+/// ```
+/// use pennyquill::{Refusal, book};
+/// let mut buffer = [7; 6];
+/// book::new(&mut buffer)?;
+/// assert_eq!(buffer, [0, 0, 0, 1, 1, 7]);
+/// assert_eq!(book::new(&mut buffer[..4]), Err(Refusal::NoRoom));
+/// # Ok::<(), Refusal>(())
+/// ```
+pub fn new(buffer: &mut [u8]) -> Result<(), Refusal> {
+    // SAFETY: the pointer and the length are those of a slice that is ours alone.
+    given(unsafe { ffi::pq_book_new(buffer.as_mut_ptr(), buffer.len()) }).map(|_| ())
+}
+
+/// The number of records of a book. Refusals 9, 10 and 11 where the bytes are not a book's.
+///
+/// ```
+/// use pennyquill::{Refusal, book};
+/// let mut bytes = [0, 0, 0, 6, 1, 2, 0x05, 0xA4, 0xB5, 0x80];
+/// assert_eq!(book::check(&bytes), Ok(1));
+/// assert_eq!(book::check(&bytes[..9]), Err(Refusal::NotBook));
+/// bytes[5] = 7;
+/// assert_eq!(book::check(&bytes), Err(Refusal::BadRecord(0)));
+/// bytes[4] = 2;
+/// assert_eq!(book::check(&bytes), Err(Refusal::WrongVersion));
+/// ```
+pub fn check(book: &[u8]) -> Result<usize, Refusal> {
+    // SAFETY: the pointer and the length are those of a slice.
+    let answer = unsafe { ffi::pq_book_check(book.as_ptr(), book.len()) };
+    given(answer).map(|records| records as usize)
+}
+
+/// The record at a place, from 0. Refusals as those of [`check`], then 13 where there is none.
+///
+/// ```
+/// use pennyquill::{Date, Refusal, book};
+/// let bytes = [0, 0, 0, 6, 1, 2, 0x05, 0xA4, 0xB5, 0x80];
+/// assert_eq!(book::record(&bytes, 0)?, book::Record::D(Date::parse("1444.11.11")?));
+/// assert_eq!(book::record(&bytes, 1), Err(Refusal::NoRecord));
+/// # Ok::<(), Refusal>(())
+/// ```
+pub fn record(book: &[u8], place: usize) -> Result<Record, Refusal> {
+    // SAFETY: the pointer and the length are those of a slice.
+    let found = unsafe { ffi::pq_book_record(book.as_ptr(), book.len(), place) };
+    match found.refusal {
+        0 => Record::from_bits(found.kind, found.value),
+        number => Err(Refusal::told(number, found.value)),
+    }
+}
+
+/// Appends a date and gives its place. Refusals as those of [`check`], then 12 where the book has 4,096 records or
+/// there are under five bytes after it.
+///
+/// ```
+/// use pennyquill::{Date, Refusal, book};
+/// let mut buffer = [0; 14];
+/// book::new(&mut buffer)?;
+/// let date = Date::parse("1444.11.11")?;
+/// assert_eq!(book::append(&mut buffer, &date)?, 0);
+/// assert_eq!(buffer[..10], [0, 0, 0, 6, 1, 2, 0x05, 0xA4, 0xB5, 0x80]);
+/// assert_eq!(book::append(&mut buffer, &date), Err(Refusal::NoRoom));
+/// # Ok::<(), Refusal>(())
+/// ```
+pub fn append<K: PdsDate>(book: &mut [u8], date: &K) -> Result<usize, Refusal> {
+    let (kind, bits) = (K::KIND, date.bits());
+    // SAFETY: the pointer and the length are those of a slice that is ours alone.
+    let answer = unsafe { ffi::pq_book_append(book.as_mut_ptr(), book.len(), kind, bits) };
+    given(answer).map(|place| place as usize)
+}

@@ -1,0 +1,53 @@
+//! The C boundary of the proved library, as `include/pennyquill.h` declares it.
+//!
+//! A kind is its code in the book: R 1, D 2, H 3, U 4, E 5, V 6. A date is its year's sixteen bits above its packed
+//! word. Refusal 0 means that the value holds the answer; at 11 the value is a place; at every other refusal the
+//! other members are 0. Every function answers whatever it is handed, given that its pointers are valid.
+
+/// A date, a length, a number of records or a place.
+#[repr(C)]
+#[derive(Clone, Copy, Debug, PartialEq, Eq)]
+pub struct Answer {
+    pub refusal: u32,
+    pub value: u32,
+}
+
+/// A number with a sign.
+#[repr(C)]
+#[derive(Clone, Copy, Debug, PartialEq, Eq)]
+pub struct Number {
+    pub refusal: u32,
+    pub value: i32,
+}
+
+/// A record of a book. `value` is its date, or at refusal 11 the place of the first bad record; `field` is 0 today.
+#[repr(C)]
+#[derive(Clone, Copy, Debug, PartialEq, Eq)]
+pub struct Record {
+    pub refusal: u32,
+    pub kind: u32,
+    pub value: u32,
+    pub field: u32,
+}
+
+// Those that take no pointer can be called with any arguments.
+unsafe extern "C" {
+    pub safe fn pq_read_number(kind: u32, number: i32) -> Answer;
+    pub safe fn pq_guess_number(kind: u32, number: i32) -> Answer;
+    pub safe fn pq_from_fields(kind: u32, year: i32, month: u32, day: u32, hour: u32) -> Answer;
+    pub safe fn pq_add_days(kind: u32, date: u32, days: i32) -> Answer;
+    pub safe fn pq_start_of_day(kind: u32, date: u32) -> Answer;
+    pub safe fn pq_to_number(kind: u32, date: u32) -> Number;
+    pub safe fn pq_days_until(kind: u32, from: u32, to: u32) -> Number;
+    pub safe fn pq_order(kind: u32, one: u32, other: u32) -> Number;
+
+    pub fn pq_read_text(kind: u32, text: *const u8, len: usize) -> Answer;
+    pub fn pq_write_dotted(kind: u32, date: u32, out: *mut u8, room: usize) -> Answer;
+    pub fn pq_write_iso(kind: u32, date: u32, out: *mut u8, room: usize) -> Answer;
+    pub fn pq_write_iso_date(kind: u32, date: u32, out: *mut u8, room: usize) -> Answer;
+    pub fn pq_write_exchange(kind: u32, date: u32, out: *mut u8, room: usize) -> Answer;
+    pub fn pq_book_new(b: *mut u8, n: usize) -> Answer;
+    pub fn pq_book_check(b: *const u8, n: usize) -> Answer;
+    pub fn pq_book_append(b: *mut u8, n: usize, kind: u32, date: u32) -> Answer;
+    pub fn pq_book_record(b: *const u8, n: usize, place: usize) -> Record;
+}

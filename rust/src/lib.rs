@@ -1,0 +1,46 @@
+//! The dates of strategy-game saves: safe Rust over the proved library, under the names that they have in jomini.
+//!
+//! Six kinds of campaign date, in years without leap days: [`RawDate`], [`Date`], [`DateHour`], [`UniformDate`],
+//! [`Eu5Date`], [`Vic3Date`]. What they share is in [`PdsDate`]; [`book`] keeps dates of all kinds in a buffer. Every
+//! answer comes from the library, whose functions are proved to meet their contracts.
+//!
+//! An operation that can be refused gives a [`Result`] with a [`Refusal`], which has a number and a sentence: also where
+//! jomini gives an `Option` (`.ok()` gives that one), and where it panics (`add_days`, and `from_ymd_opt` of
+//! [`Eu5Date`]). jomini's constructors that unwrap are not here.
+//!
+//! ```
+//! use pennyquill::{Date, PdsDate, Refusal};
+//!
+//! let start = Date::parse("1444.11.11")?;
+//! let end = Date::from_binary(59_611_848)?;
+//! assert_eq!(end.game_fmt(), "1805.1.3");
+//! assert_eq!(start.days_until(&end), 131_453);
+//! assert_eq!(start.add_days(131_453)?, end);
+//!
+//! // A number that nobody declared as a date is only taken for one where that is likely.
+//! assert_eq!(Date::from_binary_heuristic(1444), Err(Refusal::NotNumber));
+//! # Ok::<(), Refusal>(())
+//! ```
+
+mod bits;
+pub mod book;
+mod date;
+mod date_hour;
+mod eu5_date;
+pub mod ffi;
+mod pds_date;
+mod raw_date;
+mod refusal;
+mod text;
+mod uniform_date;
+mod vic3_date;
+
+pub use date::Date;
+pub use date_hour::DateHour;
+pub use eu5_date::Eu5Date;
+pub use pds_date::PdsDate;
+pub use raw_date::RawDate;
+pub use refusal::Refusal;
+pub use text::Text;
+pub use uniform_date::UniformDate;
+pub use vic3_date::Vic3Date;

@@ -1,0 +1,87 @@
+//! Kind R.
+
+use crate::bits;
+use crate::ffi;
+use crate::pds_date::{PdsDate, pds_date};
+use crate::refusal::Refusal;
+
+/// A date that may have an hour, with days up to 31 in every month: kind R.
+///
+/// ```
+/// use pennyquill::{PdsDate, RawDate};
+/// let date = RawDate::parse("1444.2.31.24")?;
+/// assert!(date > RawDate::parse("1444.2.31")?);
+/// assert_eq!(date.iso_8601(), "1444-02-31T23");
+/// # Ok::<(), pennyquill::Refusal>(())
+/// ```
+#[derive(Clone, Copy, PartialEq, Eq, Hash)]
+pub struct RawDate {
+    bits: u32,
+}
+
+pds_date!(RawDate, 1);
+
+impl RawDate {
+    /// The date with these fields, or refusal 4. Hour 0 means no hour.
+    ///
+    /// ```
+    /// use pennyquill::{PdsDate, RawDate, Refusal};
+    /// assert_eq!(RawDate::from_ymdh_opt(1444, 11, 11, 24)?.game_fmt(), "1444.11.11.24");
+    /// assert_eq!(RawDate::from_ymdh_opt(1444, 11, 11, 25), Err(Refusal::NotOfKind));
+    /// # Ok::<(), Refusal>(())
+    /// ```
+    pub fn from_ymdh_opt(year: i16, month: u8, day: u8, hour: u8) -> Result<Self, Refusal> {
+        let bits = bits::from_fields(Self::KIND, year, month, day, hour)?;
+        Ok(RawDate { bits })
+    }
+
+    /// The date of a text; refusal 1 for one over 16 bytes, 2 for one that is no date's. It reads no number's text.
+    ///
+    /// ```
+    /// use pennyquill::{RawDate, Refusal};
+    /// assert_eq!(RawDate::parse("1444.1.1.6"), RawDate::from_ymdh_opt(1444, 1, 1, 6));
+    /// assert_eq!(RawDate::parse("1444.1.1.06"), Err(Refusal::NotText));
+    /// assert_eq!(RawDate::parse("0000000001444.1.1"), Err(Refusal::TextTooLong));
+    /// ```
+    pub fn parse<T: AsRef<[u8]>>(text: T) -> Result<Self, Refusal> {
+        let bits = bits::read(Self::KIND, text.as_ref())?;
+        Ok(RawDate { bits })
+    }
+
+    /// The date of a binary number, or refusal 3. The hour is taken as it is.
+    ///
+    /// ```
+    /// use pennyquill::{PdsDate, RawDate, Refusal};
+    /// assert_eq!(RawDate::from_binary(56_379_360)?.iso_8601(), "1436-01-01");
+    /// assert_eq!(RawDate::from_binary(60_759_371)?.iso_8601(), "1936-01-01T10");
+    /// assert_eq!(RawDate::from_binary(-1), Err(Refusal::NotNumber));
+    /// # Ok::<(), Refusal>(())
+    /// ```
+    pub fn from_binary(number: i32) -> Result<Self, Refusal> {
+        let bits = bits::given(ffi::pq_read_number(Self::KIND, number))?;
+        Ok(RawDate { bits })
+    }
+
+    /// The hour, 1 to 24, or 0 where there is none.
+    ///
+    /// ```
+    /// use pennyquill::RawDate;
+    /// assert_eq!(RawDate::parse("1444.11.11.12")?.hour(), 12);
+    /// # Ok::<(), pennyquill::Refusal>(())
+    /// ```
+    pub fn hour(&self) -> u8 {
+        bits::hour(self.bits)
+    }
+
+    /// Whether the date has an hour.
+    ///
+    /// ```
+    /// use pennyquill::RawDate;
+    /// assert!(RawDate::parse("1444.11.11.12")?.has_hour());
+    /// assert!(!RawDate::parse("1444.11.11")?.has_hour());
+    /// # Ok::<(), pennyquill::Refusal>(())
+    /// ```
+    pub fn has_hour(&self) -> bool {
+        self.hour() != 0
+    }
+}

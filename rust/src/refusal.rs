@@ -1,0 +1,111 @@
+//! Why an operation was refused.
+
+use std::error::Error;
+use std::fmt;
+
+/// A refusal of the library, with the number that it has in every language.
+///
+/// ```
+/// use pennyquill::{Date, Refusal};
+/// let refusal = Date::parse("1444.2.29").unwrap_err();
+/// assert_eq!(refusal, Refusal::NotText);
+/// assert_eq!(refusal.number(), 2);
+/// assert_eq!(refusal.to_string(), "refused 2: the text is not that of a date of this kind");
+/// ```
+#[derive(Clone, Copy, Debug, PartialEq, Eq, Hash)]
+pub enum Refusal {
+    TextTooLong,
+    NotText,
+    NotNumber,
+    NotOfKind,
+    SumTooLarge,
+    NoSuchDay,
+    ShortBuffer,
+    UnreadableLine,
+    NotBook,
+    WrongVersion,
+    /// The place, from 0, of the first record that no date of its kind has.
+    BadRecord(usize),
+    NoRoom,
+    NoRecord,
+}
+
+impl Refusal {
+    /// The number of the refusal, 1 to 13.
+    ///
+    /// ```
+    /// use pennyquill::{DateHour, Refusal};
+    /// let refusal = DateHour::from_ymdh_opt(1936, 1, 1, 0).unwrap_err();
+    /// assert_eq!(refusal.number(), 4);
+    /// assert_eq!(Refusal::BadRecord(7).number(), 11);
+    /// ```
+    pub fn number(self) -> u32 {
+        match self {
+            Refusal::TextTooLong => 1,
+            Refusal::NotText => 2,
+            Refusal::NotNumber => 3,
+            Refusal::NotOfKind => 4,
+            Refusal::SumTooLarge => 5,
+            Refusal::NoSuchDay => 6,
+            Refusal::ShortBuffer => 7,
+            Refusal::UnreadableLine => 8,
+            Refusal::NotBook => 9,
+            Refusal::WrongVersion => 10,
+            Refusal::BadRecord(_) => 11,
+            Refusal::NoRoom => 12,
+            Refusal::NoRecord => 13,
+        }
+    }
+
+    /// The refusal with this number; `value` is what the boundary hands over beside it.
+    pub(crate) fn told(number: u32, value: u32) -> Refusal {
+        match number {
+            1 => Refusal::TextTooLong,
+            2 => Refusal::NotText,
+            3 => Refusal::NotNumber,
+            4 => Refusal::NotOfKind,
+            5 => Refusal::SumTooLarge,
+            6 => Refusal::NoSuchDay,
+            7 => Refusal::ShortBuffer,
+            8 => Refusal::UnreadableLine,
+            9 => Refusal::NotBook,
+            10 => Refusal::WrongVersion,
+            11 => Refusal::BadRecord(value as usize),
+            12 => Refusal::NoRoom,
+            13 => Refusal::NoRecord,
+            _ => unreachable!("the boundary gives no refusal {number}"),
+        }
+    }
+
+    fn sentence(self) -> &'static str {
+        match self {
+            Refusal::TextTooLong => "the text is over 16 bytes",
+            Refusal::NotText => "the text is not that of a date of this kind",
+            Refusal::NotNumber => {
+                "the number is not that of a date of this kind, or is not guessed to be one"
+            }
+            Refusal::NotOfKind => "these are not the fields of a date of this kind",
+            Refusal::SumTooLarge => "the sum of days is outside 32 bits",
+            Refusal::NoSuchDay => "no year of 16 bits has that day",
+            Refusal::ShortBuffer => "the buffer is shorter than the text",
+            Refusal::UnreadableLine => "the line is unreadable",
+            Refusal::NotBook => "the bytes are not those of a book: too few, or a wrong length",
+            Refusal::WrongVersion => "the book's version is not 1",
+            Refusal::BadRecord(_) => "no date of its kind has the record",
+            Refusal::NoRoom => "the buffer has no room, or the book has 4,096 records already",
+            Refusal::NoRecord => "the book has no record at that place",
+        }
+    }
+}
+
+impl fmt::Display for Refusal {
+    fn fmt(&self, f: &mut fmt::Formatter) -> fmt::Result {
+        write!(f, "refused {}: {}", self.number(), self.sentence())?;
+        match self {
+            Refusal::BadRecord(place) => write!(f, " at place {place}"),
+            _ => Ok(()),
+        }
+    }
+}
+
+impl Error for Refusal {}

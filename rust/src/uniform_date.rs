@@ -1,0 +1,45 @@
+//! Kind U.
+
+use crate::bits;
+use crate::pds_date::{PdsDate, pds_date};
+use crate::refusal::Refusal;
+
+/// A date in months of 30 days each: kind U.
+///
+/// ```
+/// use pennyquill::{PdsDate, UniformDate};
+/// assert_eq!(UniformDate::parse("2200.2.30")?.game_fmt(), "2200.02.30");
+/// # Ok::<(), pennyquill::Refusal>(())
+/// ```
+#[derive(Clone, Copy, PartialEq, Eq, Hash)]
+pub struct UniformDate {
+    bits: u32,
+}
+
+pds_date!(UniformDate, 4);
+
+impl UniformDate {
+    /// The date with these fields, or refusal 4.
+    ///
+    /// ```
+    /// use pennyquill::{Refusal, UniformDate};
+    /// assert_eq!(UniformDate::from_ymd_opt(2200, 2, 30), UniformDate::parse("2200.02.30"));
+    /// assert_eq!(UniformDate::from_ymd_opt(2200, 1, 31), Err(Refusal::NotOfKind));
+    /// ```
+    pub fn from_ymd_opt(year: i16, month: u8, day: u8) -> Result<Self, Refusal> {
+        let bits = bits::from_fields(Self::KIND, year, month, day, 0)?;
+        Ok(UniformDate { bits })
+    }
+
+    /// The date of a text, or of a number's text; refusal 1 for a text over 16 bytes, 2 for one that is no date's.
+    ///
+    /// ```
+    /// use pennyquill::{Refusal, UniformDate};
+    /// assert_eq!(UniformDate::parse("2205.02.30"), UniformDate::from_ymd_opt(2205, 2, 30));
+    /// assert_eq!(UniformDate::parse("720"), Err(Refusal::NotText)); // 31 January
+    /// ```
+    pub fn parse<T: AsRef<[u8]>>(text: T) -> Result<Self, Refusal> {
+        let bits = bits::read(Self::KIND, text.as_ref())?;
+        Ok(UniformDate { bits })
+    }
+}

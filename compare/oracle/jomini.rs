@@ -31,12 +31,36 @@ pub mod common {
             pub fn stored_hour(&self) -> u8 {
                 self.raw.hour()
             }
+
+            /// The number of the day, which differences and additions count with.
+            pub fn day_number(self) -> i32 {
+                self.days()
+            }
+
+            /// The date of a text by the way that the fast shapes fall back to.
+            pub fn by_plain_path(text: &[u8]) -> Option<Date> {
+                Self::fallback(text).ok()
+            }
         }
 
         impl UniformDate {
             pub fn stored_hour(&self) -> u8 {
                 self.raw.hour()
             }
+        }
+
+        /// Year, month, day and hour of a text, before they are those of any kind.
+        pub fn text_parts(text: &[u8]) -> Option<(i16, u8, u8, u8)> {
+            ExpandedRawDate::parse(text).map(parts)
+        }
+
+        /// Those of a number.
+        pub fn number_parts(number: i32) -> Option<(i16, u8, u8, u8)> {
+            ExpandedRawDate::from_binary(number).map(parts)
+        }
+
+        fn parts(date: ExpandedRawDate) -> (i16, u8, u8, u8) {
+            (date.year, date.month, date.day, date.hour)
         }
 
         pub fn month_and_day(day_of_year: i32) -> (u8, u8) {
@@ -56,6 +80,7 @@ pub mod common {
 /// The original's private functions, each behind a name of ours.
 pub mod leaves {
     pub use crate::common::date::{days_before_first, month_and_day, number};
+    pub use crate::common::date::{number_parts, text_parts};
 
     /// `to_i64_t`: the leading number and how many bytes follow it.
     pub fn leading_number(text: &[u8]) -> Option<(i64, usize)> {

@@ -1,0 +1,199 @@
+//! Dates handed in that are none, codes that are no kind's, and operations that a kind lacks.
+
+use crate::kinds::Fields;
+use crate::original::{self, Coded, refused};
+use crate::port::{self, Writer};
+use crate::report::{Covers, Extent, Report};
+use crate::tally::{Listed, Tally, share};
+use crate::years::years;
+use pennyquill::ffi::{self, Answer, Number};
+
+const QUICK_STEP: i16 = 499;
+const OPERATIONS_STEP: i16 = 9000;
+const FILL: u8 = 0xA5;
+const REFUSED: Number = Number {
+    refusal: 4,
+    value: 0,
+};
+
+const WRITERS: [Writer; 4] = [
+    ffi::pq_write_dotted,
+    ffi::pq_write_iso,
+    ffi::pq_write_iso_date,
+    ffi::pq_write_exchange,
+];
+
+pub fn run(extent: Extent, report: &mut Report) {
+    for_all_six!(words(extent, report));
+    let tally = share(6, |part, tally| match part {
+        0 => operations::<crate::kinds::RawDate>(tally),
+        1 => operations::<crate::kinds::Date>(tally),
+        2 => operations::<crate::kinds::DateHour>(tally),
+        3 => operations::<crate::kinds::UniformDate>(tally),
+        4 => operations::<crate::kinds::Eu5Date>(tally),
+        _ => operations::<crate::kinds::Vic3Date>(tally),
+    });
+    report.row(
+        "every word that is no date, each operation, at some years",
+        Covers::Sample,
+        tally,
+    );
+    report.row("operations that a kind lacks", Covers::Sample, lacking());
+    report.row(
+        "codes that are no kind's, each operation",
+        Covers::Sample,
+        codes(),
+    );
+}
+
+/// Whether a word is that of a date of the kind, by the original, which has no date with a low bit set.
+fn is_date<K: Coded>() -> Vec<bool> {
+    let has = |word: u16| {
+        let (month, day, hour) = (word >> 12, word >> 7 & 31, word >> 2 & 31);
+        let fields = Fields::new(1444, month as u8, day as u8, hour as u8);
+        word % 4 == 0 && original::with::<K>(fields).is_some()
+    };
+    (0..=u16::MAX).map(has).collect()
+}
+
+/// Every 32 bits: a date is in order with itself, and what is no date is 4.
+fn words<K: Coded>(extent: Extent, report: &mut Report) {
+    let (years, is_date) = (years(extent, QUICK_STEP), is_date::<K>());
+    let tally = share(years.len() as u64, |part, tally| {
+        let year = u32::from(years[part as usize] as u16);
+        for (word, &is_date) in (0..).zip(&is_date) {
+            let bits = year << 16 | word;
+            let right = if is_date {
+                Number {
+                    refusal: 0,
+                    value: 0,
+                }
+            } else {
+                REFUSED
+            };
+            let asked = || format!("{} {bits:#010x} handed in", K::LETTER);
+            tally.hold(right, ffi::pq_order(K::CODE, bits, bits), asked);
+            if !is_date {
+                tally.met(Listed::NoDate);
+            }
+        }
+    });
+    let name = format!("{}: which of all 32 bits handed in are a date", K::LETTER);
+    report.row(&name, extent.covers_all(), tally);
+}
+
+fn operations<K: Coded>(tally: &mut Tally) {
+    let is_date = is_date::<K>();
+    let good = u32::from(is_date.iter().position(|&is| is).expect("a kind has dates") as u16);
+    for year in years(Extent::Quick, OPERATIONS_STEP) {
+        let year = u32::from(year as u16) << 16;
+        for word in (0..=u16::MAX).filter(|&word| !is_date[usize::from(word)]) {
+            tally.met(Listed::NoDate);
+            all_refused(tally, K::CODE, year | u32::from(word), year | good);
+        }
+    }
+}
+
+/// Every operation on this date is 4, and changes no byte; `good` is a date where the kind is one.
+fn all_refused(tally: &mut Tally, kind: u32, date: u32, good: u32) {
+    let asked = |what: &str| format!("kind {kind}, {date:#010x}: {what}");
+    let mut hold = |answer: Answer, what: &str| tally.hold(refused(4), answer, || asked(what));
+    hold(ffi::pq_add_days(kind, date, 1), "plus 1");
+    hold(ffi::pq_start_of_day(kind, date), "start of day");
+    let mut hold = |number: Number, what: &str| tally.hold(REFUSED, number, || asked(what));
+    hold(ffi::pq_to_number(kind, date), "to number");
+    hold(ffi::pq_days_until(kind, date, good), "days until");
+    hold(ffi::pq_days_until(kind, good, date), "days until it");
+    hold(ffi::pq_order(kind, date, good), "order");
+    hold(ffi::pq_order(kind, good, date), "order with it");
+    for writer in WRITERS {
+        for room in [0, 20] {
+            let mut out = [FILL; 20];
+            let answer = port::write(writer, kind, date, &mut out[..room]);
+            tally.hold((refused(4), [FILL; 20]), (answer, out), || asked("written"));
+        }
+    }
+    let mut book = [0, 0, 0, 1, 1, FILL, FILL, FILL, FILL, FILL];
+    let before = book;
+    let answer = port::book_append(&mut book, kind, date);
+    tally.hold((refused(4), before), (answer, book), || asked("appended"));
+    let answer = port::book_append(&mut book[..3], kind, date);
+    tally.hold((refused(4), before), (answer, book), || {
+        asked("appended to no book")
+    });
+}
+
+/// D 1444.11.11 with the hour 6 is a date of R, H, E and V, without it one of R, D, U, E and V.
+const PLAIN: u32 = 1444 << 16 | 11 << 12 | 11 << 7;
+const AT_SIX: u32 = PLAIN | 6 << 2;
+
+fn lacking() -> Tally {
+    let mut tally = Tally::default();
+    for (kind, date) in [
+        (1, PLAIN),
+        (2, PLAIN),
+        (3, AT_SIX),
+        (4, PLAIN),
+        (5, PLAIN),
+        (6, PLAIN),
+    ] {
+        let mut number = |is_lacking: bool, answer: Number, what: &str| {
+            let right = if is_lacking { 4 } else { 0 };
+            tally.met_often(Listed::NoOperation, is_lacking.into());
+            tally.hold(right, answer.refusal, || format!("kind {kind}: {what}"));
+        };
+        number(
+            !matches!(kind, 2 | 3),
+            ffi::pq_to_number(kind, date),
+            "to number",
+        );
+        let days = !matches!(kind, 2 | 5 | 6);
+        number(days, ffi::pq_days_until(kind, date, date), "days until");
+        let mut date_of = |is_lacking: bool, answer: Answer, what: &str| {
+            let right = if is_lacking { 4 } else { 0 };
+            tally.met_often(Listed::NoOperation, is_lacking.into());
+            tally.hold(right, answer.refusal, || format!("kind {kind}: {what}"));
+        };
+        date_of(days, ffi::pq_add_days(kind, date, 1), "plus 1");
+        date_of(kind != 5, ffi::pq_start_of_day(kind, date), "start of day");
+    }
+    for number in (i32::MIN..=i32::MAX).step_by(10_007) {
+        for (kind, answer) in [
+            (4, ffi::pq_read_number(4, number)),
+            (4, ffi::pq_guess_number(4, number)),
+            (1, ffi::pq_guess_number(1, number)),
+        ] {
+            tally.met(Listed::NoOperation);
+            tally.hold(refused(4), answer, || {
+                format!("kind {kind}: number {number}")
+            });
+        }
+    }
+    tally
+}
+
+/// Among them those whose lowest bits are a kind's.
+fn codes() -> Tally {
+    let below = (7..1 << 16).chain([0]);
+    let above = (16..32).flat_map(|shift| (0..=7).map(move |low| 1_u32 << shift | low));
+    let mut tally = Tally::default();
+    for kind in below
+        .chain(above)
+        .chain([u32::MAX, u32::MAX - 253, 1 << 31])
+    {
+        tally.met(Listed::NoOperation);
+        all_refused(&mut tally, kind, PLAIN, PLAIN);
+        let asked = || format!("kind {kind}");
+        tally.hold(refused(4), ffi::pq_read_number(kind, 43_808_760), asked);
+        tally.hold(refused(4), ffi::pq_guess_number(kind, 43_808_760), asked);
+        tally.hold(
+            refused(4),
+            ffi::pq_from_fields(kind, 1444, 11, 11, 6),
+            asked,
+        );
+        for text in [b"1444.11.11".as_slice(), b"", b"00000000001444.11.11"] {
+            tally.hold(refused(4), port::read(kind, text), asked);
+        }
+    }
+    tally
+}

@@ -1,0 +1,72 @@
+//! The port and the original in one process, every answer of both compared. docs/COMPARISON.md has the
+//! results and says what each row is.
+//!
+//!     beside [--full] [SUBJECT..]     all subjects, or those named
+
+#[allow(dead_code, unused_macros)] // the generator uses more of it
+#[path = "../generator/kinds.rs"]
+mod kinds;
+#[allow(dead_code)]
+#[path = "../generator/random.rs"]
+mod random;
+#[macro_use]
+mod original;
+mod books;
+mod days;
+mod drawn;
+mod fields;
+mod generated;
+mod handed_in;
+mod leaves;
+mod lines;
+mod numbers;
+mod port;
+mod report;
+mod spellings;
+mod tally;
+mod texts;
+mod valid_texts;
+mod years;
+
+use report::{Extent, Report};
+use std::process::ExitCode;
+
+type Subject = fn(Extent, &mut Report);
+
+const SUBJECTS: [(&str, Subject); 10] = [
+    ("numbers", numbers::run),
+    ("fields", fields::run),
+    ("texts", texts::run),
+    ("generated", generated::run),
+    ("spellings", spellings::run),
+    ("days", days::run),
+    ("handed_in", handed_in::run),
+    ("leaves", leaves::run),
+    ("books", books::run),
+    ("lines", lines::run),
+];
+
+fn main() -> ExitCode {
+    let mut names: Vec<String> = std::env::args().skip(1).collect();
+    let is_full = names.iter().any(|name| name == "--full");
+    names.retain(|name| name != "--full");
+    let is_subject = |name: &String| SUBJECTS.iter().any(|(subject, _)| subject == name);
+    if !names.iter().all(is_subject) {
+        let subjects = SUBJECTS.map(|(subject, _)| subject).join(" ");
+        eprintln!("usage: beside [--full] [SUBJECT..], subjects: {subjects}");
+        return ExitCode::from(2);
+    }
+    let extent = if is_full { Extent::Full } else { Extent::Quick };
+    original::hush_asked_panics();
+    let mut report = Report::new();
+    for (name, subject) in SUBJECTS {
+        if names.is_empty() || names.iter().any(|named| named == name) {
+            subject(extent, &mut report);
+        }
+    }
+    if report.end() {
+        ExitCode::SUCCESS
+    } else {
+        ExitCode::FAILURE
+    }
+}

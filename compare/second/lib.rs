@@ -1,0 +1,6 @@
+//! The second reading as a library, for `beside/`, which asks the boundary and it the same.
+
+pub mod book;
+pub mod exchange;
+pub mod kinds;
+pub mod listing;

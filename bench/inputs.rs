@@ -1,0 +1,79 @@
+//! What both sides are asked about: the same random dates on every run.
+
+use crate::random::Random;
+use jomini::common::Date;
+
+/// So many inputs stay in the nearest cache.
+const COUNT: usize = 512;
+
+const LENGTHS: [i64; 12] = [31, 28, 31, 30, 31, 30, 31, 31, 30, 31, 30, 31];
+
+#[derive(Clone, Copy)]
+pub struct Day {
+    pub year: i16,
+    pub month: u8,
+    pub day: u8,
+}
+
+/// Days as saves have them; for a fast shape those that are spelled in it.
+pub fn days(is_wanted: impl Fn(Day) -> bool) -> Vec<Day> {
+    let mut random = Random::new(0);
+    let mut some_day = || {
+        let month = random.between(1, 12);
+        let day = random.between(1, LENGTHS[month as usize - 1]);
+        Day {
+            year: random.between(1000, 2500) as i16,
+            month: month as u8,
+            day: day as u8,
+        }
+    };
+    std::iter::from_fn(|| Some(some_day()))
+        .filter(|&day| is_wanted(day))
+        .take(COUNT)
+        .collect()
+}
+
+pub fn all_days() -> Vec<Day> {
+    days(|_| true)
+}
+
+/// The texts of days, by a function that spells one.
+pub fn texts(days: Vec<Day>, spell: impl Fn(Day) -> String) -> Vec<Vec<u8>> {
+    days.into_iter()
+        .map(|day| spell(day).into_bytes())
+        .collect()
+}
+
+pub fn dotted(day: Day) -> String {
+    format!("{}.{}.{}", day.year, day.month, day.day)
+}
+
+/// The binary numbers of days, at an hour.
+pub fn numbers(hour: i32) -> Vec<i32> {
+    let number = |day: Day| Date::from_ymd(day.year, day.month, day.day).to_binary() + hour;
+    all_days().into_iter().map(number).collect()
+}
+
+/// Days to add, which stay within the years that dates have.
+pub fn steps() -> Vec<i32> {
+    let mut random = Random::new(1);
+    (0..COUNT)
+        .map(|_| random.between(-100_000, 100_000) as i32)
+        .collect()
+}
+
+/// A book of 4,096 records of all kinds.
+pub fn full_book() -> Vec<u8> {
+    let mut random = Random::new(2);
+    let mut book = 20_481_u32.to_be_bytes().to_vec();
+    book.push(1);
+    for _ in 0..4096 {
+        let kind = random.between(1, 6) as u8;
+        let hour = if kind == 3 { 12 } else { 0 };
+        let word = random.between(1, 12) << 12 | random.between(1, 28) << 7 | hour << 2;
+        book.push(kind);
+        book.extend((random.between(1, 2500) as u16).to_be_bytes());
+        book.extend((word as u16).to_be_bytes());
+    }
+    book
+}

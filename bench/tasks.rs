@@ -1,0 +1,281 @@
+//! What is timed.
+
+use crate::bounded;
+use crate::inputs::{Day, all_days, days, dotted, full_book, numbers, steps, texts};
+use crate::measure::{Times, compare};
+use eu5save::Eu5Date;
+use jomini::common::{Date, DateHour, PdsDate, PdsDateFormatter, RawDate, UniformDate};
+use pennyquill::ffi::{self, Answer, Number};
+use vic3save::Vic3Date;
+
+const R: u32 = 1;
+const D: u32 = 2;
+const H: u32 = 3;
+const U: u32 = 4;
+const E: u32 = 5;
+const V: u32 = 6;
+
+/// Shows each task as it is done.
+pub type Show<'a> = &'a mut dyn FnMut(&str, Times);
+
+pub fn all(show: Show) {
+    reading(show);
+    numbers_read(show);
+    writing(show);
+    counting(show);
+    check_book(show);
+}
+
+fn reading(show: Show) {
+    let is_short = |number: u8| number < 10;
+    let shaped = |is_short_month: bool, is_short_day: bool| {
+        let fits =
+            |day: Day| is_short(day.month) == is_short_month && is_short(day.day) == is_short_day;
+        texts(days(fits), dotted)
+    };
+    read(show, "D `YYYY.M.D`", D, shaped(true, true), |text| {
+        Date::parse(text)
+    });
+    read(show, "D `YYYY.MM.D`", D, shaped(false, true), |text| {
+        Date::parse(text)
+    });
+    read(show, "D `YYYY.M.DD`", D, shaped(true, false), |text| {
+        Date::parse(text)
+    });
+    read(show, "D `YYYY.MM.DD`", D, shaped(false, false), |text| {
+        Date::parse(text)
+    });
+    let before_0 = texts(all_days(), |day| format!("-{}", dotted(day)));
+    read(
+        show,
+        "D in no fast shape, `-YYYY.M.D`",
+        D,
+        before_0,
+        |text| Date::parse(text),
+    );
+    let number_text = |number: i32| number.to_string().into_bytes();
+    let number_texts = numbers(0).into_iter().map(number_text);
+    read(show, "D number", D, number_texts.collect(), |text| {
+        Date::parse(text)
+    });
+    let at_noon = || texts(all_days(), |day| format!("{}.12", dotted(day)));
+    read(show, "R", R, at_noon(), |text| RawDate::parse(text));
+    read(show, "H", H, at_noon(), |text| DateHour::parse(text));
+    read(show, "E", E, at_noon(), |text| Eu5Date::parse(text));
+    read(show, "V", V, at_noon(), |text| Vic3Date::parse(text));
+    let uniform = |day: Day| format!("{}.{:02}.{:02}", day.year, day.month, day.day.min(30));
+    read(show, "U", U, texts(all_days(), uniform), |text| {
+        UniformDate::parse(text)
+    });
+}
+
+fn read<A>(show: Show, name: &str, kind: u32, texts: Vec<Vec<u8>>, parse: impl Fn(&[u8]) -> A) {
+    let bounded = |text: &Vec<u8>| bounded::read_text(kind, text.as_ptr(), text.len());
+    // SAFETY: the pointer and the length are those of a slice.
+    let port = |text: &Vec<u8>| unsafe { ffi::pq_read_text(kind, text.as_ptr(), text.len()) };
+    let times = compare(&texts, |text| parse(text), bounded, port);
+    show(&format!("read text, {name}"), times);
+}
+
+fn numbers_read(show: Show) {
+    let (days, hours) = (numbers(0), numbers(12));
+    decode(show, "R", R, &hours, RawDate::from_binary);
+    decode(show, "D", D, &days, Date::from_binary);
+    decode(show, "H", H, &hours, DateHour::from_binary);
+    decode(show, "E", E, &hours, Eu5Date::from_binary);
+    decode(show, "V", V, &hours, Vic3Date::from_binary);
+    guess(show, "D", D, &days, Date::from_binary_heuristic);
+    guess(show, "H", H, &hours, DateHour::from_binary_heuristic);
+    guess(show, "E", E, &hours, Eu5Date::from_binary_heuristic);
+    guess(show, "V", V, &hours, Vic3Date::from_binary_heuristic);
+    let plain: Vec<i32> = (0..512).map(|number| number * 7 + 1).collect();
+    guess(
+        show,
+        "D, a small one",
+        D,
+        &plain,
+        Date::from_binary_heuristic,
+    );
+}
+
+fn decode<A>(show: Show, name: &str, kind: u32, numbers: &[i32], decode: impl Fn(i32) -> A) {
+    let bounded = |&number: &i32| bounded::read_number(kind, number);
+    let port = |&number: &i32| ffi::pq_read_number(kind, number);
+    let times = compare(numbers, |&number| decode(number), bounded, port);
+    show(&format!("decode a number, {name}"), times);
+}
+
+fn guess<A>(show: Show, name: &str, kind: u32, numbers: &[i32], guess: impl Fn(i32) -> A) {
+    let bounded = |&number: &i32| bounded::guess_number(kind, number);
+    let port = |&number: &i32| ffi::pq_guess_number(kind, number);
+    let times = compare(numbers, |&number| guess(number), bounded, port);
+    show(&format!("guess at a number, {name}"), times);
+}
+
+/// Dates of the original, each with its bits.
+fn dates<K>(hour: u32, make: impl Fn(Day) -> K) -> Vec<(K, u32)> {
+    let bits = |day: Day| {
+        let word = u32::from(day.month) << 12 | u32::from(day.day) << 7 | hour << 2;
+        u32::from(day.year as u16) << 16 | word
+    };
+    all_days()
+        .into_iter()
+        .map(|day| (make(day), bits(day)))
+        .collect()
+}
+
+fn plain_dates() -> Vec<(Date, u32)> {
+    dates(0, |day| Date::from_ymd(day.year, day.month, day.day))
+}
+
+fn hourly_dates() -> Vec<(DateHour, u32)> {
+    dates(12, |day| {
+        DateHour::from_ymdh(day.year, day.month, day.day, 12)
+    })
+}
+
+fn vic3_dates() -> Vec<(Vic3Date, u32)> {
+    dates(12, |day| {
+        Vic3Date::from_ymdh(day.year, day.month, day.day, 12)
+    })
+}
+
+fn eu5_dates() -> Vec<(Eu5Date, u32)> {
+    let date = |day: Day| Eu5Date::parse(format!("{}.12", dotted(day)));
+    dates(12, |day| date(day).expect("12 is an hour of E"))
+}
+
+type Writer = unsafe extern "C" fn(u32, u32, *mut u8, usize) -> Answer;
+
+fn writing(show: Show) {
+    let dotted: [Writer; 2] = [bounded::write_dotted, ffi::pq_write_dotted];
+    let iso: [Writer; 2] = [bounded::write_iso, ffi::pq_write_iso];
+    write(
+        show,
+        "dotted text, D",
+        D,
+        plain_dates(),
+        |date| date.game_fmt(),
+        dotted,
+    );
+    write(
+        show,
+        "dotted text, H",
+        H,
+        hourly_dates(),
+        |date| date.game_fmt(),
+        dotted,
+    );
+    write(
+        show,
+        "dotted text, V",
+        V,
+        vic3_dates(),
+        |date| date.game_fmt(),
+        dotted,
+    );
+    write(
+        show,
+        "ISO text, D",
+        D,
+        plain_dates(),
+        |date| date.iso_8601(),
+        iso,
+    );
+    write(
+        show,
+        "ISO text, H",
+        H,
+        hourly_dates(),
+        |date| date.iso_8601(),
+        iso,
+    );
+    write(
+        show,
+        "ISO text, V",
+        V,
+        vic3_dates(),
+        |date| date.iso_8601(),
+        iso,
+    );
+}
+
+fn write<K>(
+    show: Show,
+    name: &str,
+    kind: u32,
+    dates: Vec<(K, u32)>,
+    text: impl Fn(&K) -> PdsDateFormatter,
+    [bounded, port]: [Writer; 2],
+) {
+    let original = |(date, _): &(K, u32)| {
+        let mut out = [0; 16];
+        let answer = bounded::put(text(date), &mut out);
+        (out, answer)
+    };
+    let by = |writer: Writer| {
+        move |&(_, bits): &(K, u32)| {
+            let mut out = [0; 16];
+            // SAFETY: the pointer and the length are those of an array that is ours.
+            let answer = unsafe { writer(kind, bits, out.as_mut_ptr(), out.len()) };
+            (out, answer)
+        }
+    };
+    show(
+        &format!("write {name}"),
+        compare(&dates, original, by(bounded), by(port)),
+    );
+}
+
+fn counting(show: Show) {
+    add(show, "D", D, plain_dates(), |date, days| {
+        date.add_days(days)
+    });
+    add(show, "E", E, eu5_dates(), |date, days| date.add_days(days));
+    add(show, "V", V, vic3_dates(), |date, days| date.add_days(days));
+    subtract(show, "D", D, plain_dates(), |one, other| {
+        one.days_until(other)
+    });
+    subtract(show, "E", E, eu5_dates(), |one, other| {
+        one.days_until(other)
+    });
+    subtract(show, "V", V, vic3_dates(), |one, other| {
+        one.days_until(other)
+    });
+}
+
+fn add<K>(show: Show, name: &str, kind: u32, dates: Vec<(K, u32)>, add: impl Fn(&K, i32) -> K) {
+    let inputs: Vec<((K, u32), i32)> = dates.into_iter().zip(steps()).collect();
+    let bounded = |((_, bits), days): &((K, u32), i32)| bounded::add_days(kind, *bits, *days);
+    let port = |((_, bits), days): &((K, u32), i32)| ffi::pq_add_days(kind, *bits, *days);
+    let times = compare(&inputs, |((date, _), days)| add(date, *days), bounded, port);
+    show(&format!("add days, {name}"), times);
+}
+
+fn subtract<K: Copy>(
+    show: Show,
+    name: &str,
+    kind: u32,
+    dates: Vec<(K, u32)>,
+    until: impl Fn(K, &K) -> i32,
+) {
+    type Pair<K> = ((K, u32), (K, u32));
+    let others = dates.clone().into_iter().rev();
+    let pairs: Vec<Pair<K>> = dates.into_iter().zip(others).collect();
+    let bounded = |(one, other): &Pair<K>| -> Number { bounded::days_until(kind, one.1, other.1) };
+    let port = |(one, other): &Pair<K>| ffi::pq_days_until(kind, one.1, other.1);
+    let times = compare(&pairs, |(one, other)| until(one.0, &other.0), bounded, port);
+    show(&format!("difference of days, {name}"), times);
+}
+
+/// The original has no book: here the second reading of document 01 stands for it.
+fn check_book(show: Show) {
+    let book = [full_book()];
+    let second = |book: &Vec<u8>| second_reading::book::check(book);
+    // SAFETY: the pointer and the length are those of a slice.
+    let port = |book: &Vec<u8>| unsafe { ffi::pq_book_check(book.as_ptr(), book.len()) };
+    show(
+        "check a book of 4,096 records *",
+        compare(&book, second, second, port),
+    );
+}

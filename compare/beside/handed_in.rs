@@ -1,6 +1,6 @@
 //! Dates handed in that are none, codes that are no kind's, and operations that a kind lacks.
 
-use crate::kinds::Fields;
+use crate::kinds::{Date, DateHour, Eu5Date, Fields, RawDate, UniformDate, Vic3Date};
 use crate::original::{self, Coded, refused};
 use crate::port::{self, Writer};
 use crate::report::{Covers, Extent, Report};
@@ -11,6 +11,10 @@ use pennyquill::ffi::{self, Answer, Number};
 const QUICK_STEP: i16 = 499;
 const OPERATIONS_STEP: i16 = 9000;
 const FILL: u8 = 0xA5;
+const SAME: Number = Number {
+    refusal: 0,
+    value: 0,
+};
 const REFUSED: Number = Number {
     refusal: 4,
     value: 0,
@@ -26,19 +30,22 @@ const WRITERS: [Writer; 4] = [
 pub fn run(extent: Extent, report: &mut Report) {
     for_all_six!(words(extent, report));
     let tally = share(6, |part, tally| match part {
-        0 => operations::<crate::kinds::RawDate>(tally),
-        1 => operations::<crate::kinds::Date>(tally),
-        2 => operations::<crate::kinds::DateHour>(tally),
-        3 => operations::<crate::kinds::UniformDate>(tally),
-        4 => operations::<crate::kinds::Eu5Date>(tally),
-        _ => operations::<crate::kinds::Vic3Date>(tally),
+        0 => operations::<RawDate>(tally),
+        1 => operations::<Date>(tally),
+        2 => operations::<DateHour>(tally),
+        3 => operations::<UniformDate>(tally),
+        4 => operations::<Eu5Date>(tally),
+        _ => operations::<Vic3Date>(tally),
     });
     report.row(
         "every word that is no date, each operation, at some years",
         Covers::Sample,
         tally,
     );
-    report.row("operations that a kind lacks", Covers::Sample, lacking());
+    let mut tally = Tally::default();
+    for_all_six!(lacking(&mut tally));
+    lacking_numbers(&mut tally);
+    report.row("operations that a kind lacks", Covers::Sample, tally);
     report.row(
         "codes that are no kind's, each operation",
         Covers::Sample,
@@ -63,14 +70,7 @@ fn words<K: Coded>(extent: Extent, report: &mut Report) {
         let year = u32::from(years[part as usize] as u16);
         for (word, &is_date) in (0..).zip(&is_date) {
             let bits = year << 16 | word;
-            let right = if is_date {
-                Number {
-                    refusal: 0,
-                    value: 0,
-                }
-            } else {
-                REFUSED
-            };
+            let right = if is_date { SAME } else { REFUSED };
             let asked = || format!("{} {bits:#010x} handed in", K::LETTER);
             tally.hold(right, ffi::pq_order(K::CODE, bits, bits), asked);
             if !is_date {
@@ -123,54 +123,58 @@ fn all_refused(tally: &mut Tally, kind: u32, date: u32, good: u32) {
     });
 }
 
-/// D 1444.11.11 with the hour 6 is a date of R, H, E and V, without it one of R, D, U, E and V.
-const PLAIN: u32 = 1444 << 16 | 11 << 12 | 11 << 7;
-const AT_SIX: u32 = PLAIN | 6 << 2;
-
-fn lacking() -> Tally {
-    let mut tally = Tally::default();
-    for (kind, date) in [
-        (1, PLAIN),
-        (2, PLAIN),
-        (3, AT_SIX),
-        (4, PLAIN),
-        (5, PLAIN),
-        (6, PLAIN),
-    ] {
-        let mut number = |is_lacking: bool, answer: Number, what: &str| {
-            let right = if is_lacking { 4 } else { 0 };
-            tally.met_often(Listed::NoOperation, is_lacking.into());
-            tally.hold(right, answer.refusal, || format!("kind {kind}: {what}"));
-        };
-        number(
-            !matches!(kind, 2 | 3),
-            ffi::pq_to_number(kind, date),
-            "to number",
-        );
-        let days = !matches!(kind, 2 | 5 | 6);
-        number(days, ffi::pq_days_until(kind, date, date), "days until");
-        let mut date_of = |is_lacking: bool, answer: Answer, what: &str| {
-            let right = if is_lacking { 4 } else { 0 };
-            tally.met_often(Listed::NoOperation, is_lacking.into());
-            tally.hold(right, answer.refusal, || format!("kind {kind}: {what}"));
-        };
-        date_of(days, ffi::pq_add_days(kind, date, 1), "plus 1");
-        date_of(kind != 5, ffi::pq_start_of_day(kind, date), "start of day");
-    }
-    for number in (i32::MIN..=i32::MAX).step_by(10_007) {
-        for (kind, answer) in [
-            (4, ffi::pq_read_number(4, number)),
-            (4, ffi::pq_guess_number(4, number)),
-            (1, ffi::pq_guess_number(1, number)),
-        ] {
-            tally.met(Listed::NoOperation);
-            tally.hold(refused(4), answer, || {
-                format!("kind {kind}: number {number}")
-            });
+/// Every day of a kind at some years, by each operation that the kind lacks. That of the ISO date alone
+/// is asked where texts are written.
+fn lacking<K: Coded>(tally: &mut Tally) {
+    let (writes_numbers, counts_days) = (
+        matches!(K::LETTER, 'D' | 'H'),
+        matches!(K::LETTER, 'D' | 'E' | 'V'),
+    );
+    for year in years(Extent::Quick, OPERATIONS_STEP) {
+        for (month, day, hour) in original::days::<K>() {
+            let date = original::bits(Fields::new(year, month, day, hour));
+            let asked = || format!("{} {date:#010x}: an operation it lacks", K::LETTER);
+            let mut date_refused = |answer: Answer| {
+                tally.met(Listed::NoOperation);
+                tally.hold(refused(4), answer, asked);
+            };
+            if K::LETTER != 'E' {
+                date_refused(ffi::pq_start_of_day(K::CODE, date));
+            }
+            if !counts_days {
+                date_refused(ffi::pq_add_days(K::CODE, date, 1));
+            }
+            let mut number_refused = |number: Number| {
+                tally.met(Listed::NoOperation);
+                tally.hold(REFUSED, number, asked);
+            };
+            if !counts_days {
+                number_refused(ffi::pq_days_until(K::CODE, date, date));
+            }
+            if !writes_numbers {
+                number_refused(ffi::pq_to_number(K::CODE, date));
+            }
         }
     }
-    tally
 }
+
+/// U reads no number, and R guesses at none.
+fn lacking_numbers(tally: &mut Tally) {
+    for number in (i32::MIN..=i32::MAX).step_by(10_007) {
+        let answers = [
+            ffi::pq_read_number(4, number),
+            ffi::pq_guess_number(4, number),
+            ffi::pq_guess_number(1, number),
+        ];
+        for answer in answers {
+            tally.met(Listed::NoOperation);
+            tally.hold(refused(4), answer, || format!("U or R: number {number}"));
+        }
+    }
+}
+
+/// D 1444.11.11.
+const PLAIN: u32 = 1444 << 16 | 11 << 12 | 11 << 7;
 
 /// Among them those whose lowest bits are a kind's.
 fn codes() -> Tally {

@@ -27,11 +27,17 @@ pub const ROOM: usize = 20_485;
 /// A date of any kind, as a book has it.
 #[derive(Clone, Copy, Debug, PartialEq, Eq, Hash)]
 pub enum Record {
+    /// Kind R.
     R(RawDate),
+    /// Kind D.
     D(Date),
+    /// Kind H.
     H(DateHour),
+    /// Kind U.
     U(UniformDate),
+    /// Kind E.
     E(Eu5Date),
+    /// Kind V.
     V(Vic3Date),
 }
 

@@ -3,6 +3,7 @@
 //! A kind is its code in the book: R 1, D 2, H 3, U 4, E 5, V 6. A date is its year's sixteen bits above its packed
 //! word. Refusal 0 means that the value holds the answer; at 11 the value is a place; at every other refusal the
 //! other members are 0. Every function answers whatever it is handed, given that its pointers are valid.
+#![allow(missing_docs)] // the header has them
 
 /// A date, a length, a number of records or a place.
 #[repr(C)]

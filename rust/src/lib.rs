@@ -21,6 +21,13 @@
 //! assert_eq!(Date::from_binary_heuristic(1444), Err(Refusal::NotNumber));
 //! # Ok::<(), Refusal>(())
 //! ```
+//!
+//! # Building
+//!
+//! The library is a static one, `libpennyquill.a`: `./library` in the repository proves it and writes it to
+//! `target/native`, where `build.rs` finds it. Elsewhere the environment variable `PENNYQUILL_LIB` names its folder. No
+//! other crate is needed.
+#![warn(missing_docs)]
 
 mod bits;
 pub mod book;

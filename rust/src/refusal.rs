@@ -14,19 +14,31 @@ use std::fmt;
 /// ```
 #[derive(Clone, Copy, Debug, PartialEq, Eq, Hash)]
 pub enum Refusal {
+    /// 1: a text over 16 bytes.
     TextTooLong,
+    /// 2: a text that is no date of the kind.
     NotText,
+    /// 3: a number that is no date of the kind, or that the guess does not take for one.
     NotNumber,
+    /// 4: fields or bits that are no date of the kind.
     NotOfKind,
+    /// 5: a sum of days outside 32 bits.
     SumTooLarge,
+    /// 6: a sum of days that is in no year of 16 bits.
     NoSuchDay,
+    /// 7: a buffer shorter than the text.
     ShortBuffer,
+    /// 8: a line of `datelist` that is unreadable. No function of this crate reads one.
     UnreadableLine,
+    /// 9: bytes that are no book's: under five, or a length that cannot be.
     NotBook,
+    /// 10: a book of another version than 1.
     WrongVersion,
-    /// The place, from 0, of the first record that no date of its kind has.
+    /// 11: a record that no date of its kind has, with the place of the first one, from 0.
     BadRecord(usize),
+    /// 12: no room for a new book or for one more record.
     NoRoom,
+    /// 13: no record at that place.
     NoRecord,
 }
 

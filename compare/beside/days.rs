@@ -44,11 +44,12 @@ const FIXED: [(i16, u8, u8); 7] = [
     (32767, 12, 30),
 ];
 
+/// What takes longest comes last.
 pub fn run(extent: Extent, report: &mut Report) {
-    for_each!(additions(extent, report): Date, Eu5Date, Vic3Date);
-    for_each!(differences(extent, report): Date, Eu5Date, Vic3Date);
-    for_all_six!(orders(extent, report));
     starts(extent, report);
+    for_all_six!(orders(extent, report));
+    for_each!(differences(extent, report): Date, Eu5Date, Vic3Date);
+    for_each!(additions(extent, report): Date, Vic3Date, Eu5Date);
 }
 
 fn date<K: Coded>(year: i16, (month, day, hour): (u8, u8, u8)) -> K {

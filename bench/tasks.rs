@@ -27,46 +27,42 @@ pub fn all(show: Show) {
 }
 
 fn reading(show: Show) {
-    let is_short = |number: u8| number < 10;
-    let shaped = |is_short_month: bool, is_short_day: bool| {
-        let fits =
-            |day: Day| is_short(day.month) == is_short_month && is_short(day.day) == is_short_day;
-        texts(days(fits), dotted)
-    };
-    read(show, "D `YYYY.M.D`", D, shaped(true, true), |text| {
-        Date::parse(text)
-    });
-    read(show, "D `YYYY.MM.D`", D, shaped(false, true), |text| {
-        Date::parse(text)
-    });
-    read(show, "D `YYYY.M.DD`", D, shaped(true, false), |text| {
-        Date::parse(text)
-    });
-    read(show, "D `YYYY.MM.DD`", D, shaped(false, false), |text| {
-        Date::parse(text)
-    });
-    let before_0 = texts(all_days(), |day| format!("-{}", dotted(day)));
-    read(
-        show,
-        "D in no fast shape, `-YYYY.M.D`",
-        D,
-        before_0,
-        |text| Date::parse(text),
-    );
-    let number_text = |number: i32| number.to_string().into_bytes();
-    let number_texts = numbers(0).into_iter().map(number_text);
-    read(show, "D number", D, number_texts.collect(), |text| {
-        Date::parse(text)
-    });
+    reading_dates(show);
     let at_noon = || texts(all_days(), |day| format!("{}.12", dotted(day)));
     read(show, "R", R, at_noon(), |text| RawDate::parse(text));
     read(show, "H", H, at_noon(), |text| DateHour::parse(text));
     read(show, "E", E, at_noon(), |text| Eu5Date::parse(text));
     read(show, "V", V, at_noon(), |text| Vic3Date::parse(text));
     let uniform = |day: Day| format!("{}.{:02}.{:02}", day.year, day.month, day.day.min(30));
-    read(show, "U", U, texts(all_days(), uniform), |text| {
-        UniformDate::parse(text)
+    let uniform = texts(all_days(), uniform);
+    read(show, "U", U, uniform, |text| UniformDate::parse(text));
+}
+
+/// D's four fast shapes, a text in none of them, and the text of a number. A closure for each, so that
+/// the compiler may put the original's reader into each loop.
+fn reading_dates(show: Show) {
+    let is_short = |number: u8| number < 10;
+    let shaped = |short_month: bool, short_day: bool| {
+        let month = move |day: Day| is_short(day.month) == short_month;
+        let fits = |day: Day| month(day) && is_short(day.day) == short_day;
+        texts(days(fits), dotted)
+    };
+    let short = shaped(true, true);
+    read(show, "D `YYYY.M.D`", D, short, |text| Date::parse(text));
+    let long_month = shaped(false, true);
+    read(show, "D `YYYY.MM.D`", D, long_month, |text| {
+        Date::parse(text)
     });
+    let long_day = shaped(true, false);
+    read(show, "D `YYYY.M.DD`", D, long_day, |text| Date::parse(text));
+    let long = shaped(false, false);
+    read(show, "D `YYYY.MM.DD`", D, long, |text| Date::parse(text));
+    let plain = texts(all_days(), |day| format!("-{}", dotted(day)));
+    let name = "D in no fast shape, `-YYYY.M.D`";
+    read(show, name, D, plain, |text| Date::parse(text));
+    let number_text = |number: i32| number.to_string().into_bytes();
+    let numbers = numbers(0).into_iter().map(number_text).collect();
+    read(show, "D number", D, numbers, |text| Date::parse(text));
 }
 
 fn read<A>(show: Show, name: &str, kind: u32, texts: Vec<Vec<u8>>, parse: impl Fn(&[u8]) -> A) {
@@ -148,64 +144,25 @@ fn eu5_dates() -> Vec<(Eu5Date, u32)> {
 type Writer = unsafe extern "C" fn(u32, u32, *mut u8, usize) -> Answer;
 
 fn writing(show: Show) {
-    let dotted: [Writer; 2] = [bounded::write_dotted, ffi::pq_write_dotted];
-    let iso: [Writer; 2] = [bounded::write_iso, ffi::pq_write_iso];
-    write(
-        show,
-        "dotted text, D",
-        D,
-        plain_dates(),
-        |date| date.game_fmt(),
-        dotted,
-    );
-    write(
-        show,
-        "dotted text, H",
-        H,
-        hourly_dates(),
-        |date| date.game_fmt(),
-        dotted,
-    );
-    write(
-        show,
-        "dotted text, V",
-        V,
-        vic3_dates(),
-        |date| date.game_fmt(),
-        dotted,
-    );
-    write(
-        show,
-        "ISO text, D",
-        D,
-        plain_dates(),
-        |date| date.iso_8601(),
-        iso,
-    );
-    write(
-        show,
-        "ISO text, H",
-        H,
-        hourly_dates(),
-        |date| date.iso_8601(),
-        iso,
-    );
-    write(
-        show,
-        "ISO text, V",
-        V,
-        vic3_dates(),
-        |date| date.iso_8601(),
-        iso,
-    );
+    let put: [Writer; 2] = [bounded::write_dotted, ffi::pq_write_dotted];
+    let text = "dotted text";
+    write(show, text, "D", D, plain_dates(), Date::game_fmt, put);
+    write(show, text, "H", H, hourly_dates(), DateHour::game_fmt, put);
+    write(show, text, "V", V, vic3_dates(), Vic3Date::game_fmt, put);
+    let put: [Writer; 2] = [bounded::write_iso, ffi::pq_write_iso];
+    let text = "ISO text";
+    write(show, text, "D", D, plain_dates(), Date::iso_8601, put);
+    write(show, text, "H", H, hourly_dates(), DateHour::iso_8601, put);
+    write(show, text, "V", V, vic3_dates(), Vic3Date::iso_8601, put);
 }
 
 fn write<K>(
     show: Show,
     name: &str,
+    letter: &str,
     kind: u32,
     dates: Vec<(K, u32)>,
-    text: impl Fn(&K) -> PdsDateFormatter,
+    text: fn(&K) -> PdsDateFormatter,
     [bounded, port]: [Writer; 2],
 ) {
     let original = |(date, _): &(K, u32)| {
@@ -222,7 +179,7 @@ fn write<K>(
         }
     };
     show(
-        &format!("write {name}"),
+        &format!("write {name}, {letter}"),
         compare(&dates, original, by(bounded), by(port)),
     );
 }

@@ -114,7 +114,8 @@ impl Eu5Date {
         bits::counted(ffi::pq_days_until(Self::KIND, self.bits, other.bits))
     }
 
-    /// The date so many days on, at the start of its day. Refusals as those of [`Date::add_days`](crate::Date::add_days).
+    /// The date so many days on, at the start of its day. Refusals as those of
+    /// [`Date::add_days`](crate::Date::add_days).
     ///
     /// ```
     /// use pennyquill::{Eu5Date, Refusal};

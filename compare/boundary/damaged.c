@@ -1,7 +1,8 @@
 /* Every function of the boundary on damaged input: texts cut short, kinds and fields and dates that are none, books cut and
  * changed at each byte. Each buffer is allocated with exactly its length, so that valgrind sees an access one byte past it.
  * Here it is checked that a refusal changes no byte and gives 0 beside its number (11: a place), that a text fits its room,
- * and that what stands after a text or a book stays. Prints how many calls there were; the status is 1 after a fault. */
+ * and that what stands after a text or a book stays. Prints how many calls there were and a digest of their answers; the
+ * status is 1 after a fault. */
 #include "pennyquill.h"
 #include <inttypes.h>
 #include <stdio.h>
@@ -9,6 +10,7 @@
 #include <string.h>
 
 static unsigned long calls, refusals, faults;
+static uint32_t digest; /* of all answers: the same on every processor */
 
 static void fault(const char *what, uint32_t kind, uint32_t number) {
     faults++;
@@ -44,6 +46,7 @@ static int is_kind(uint32_t kind) { return 1 <= kind && kind <= 6; }
 static void told(const char *what, uint32_t kind, uint32_t number, uint32_t refusal, uint32_t value) {
     calls++;
     refusals += refusal != 0;
+    digest = (digest * 31 + refusal) * 31 + value;
     if (refusal > 13 || (refusal != 0 && refusal != 11 && value != 0))
         fault(what, kind, number);
     if (!is_kind(kind) && refusal != 4)
@@ -210,6 +213,6 @@ int main(void) {
     dates();
     fields_and_numbers();
     books();
-    printf("%lu calls, %lu refused, %lu faults\n", calls, refusals, faults);
+    printf("%lu calls, %lu refused, %lu faults, digest %08" PRIx32 "\n", calls, refusals, faults, digest);
     return faults != 0;
 }

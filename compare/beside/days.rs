@@ -65,12 +65,13 @@ fn additions<K: Coded + Counted>(extent: Extent, report: &mut Report) {
             add_all(date::<K>(year, day), asks_panics, asked, decided);
         }
     });
-    report.row(
-        &format!("{}: every date, additions", K::LETTER),
-        extent.covers_all(),
-        asked,
-    );
     let decided = decided.into_iter().fold(Tally::default(), Tally::and);
+    let which = match decided.compared {
+        0 => "additions",
+        _ => "additions that give a date, and panics at some years",
+    };
+    let name = format!("{}: every date, {which}", K::LETTER);
+    report.row(&name, extent.covers_all(), asked);
     if decided.compared > 0 {
         let name = format!("{}: additions whose panic is decided by the sum", K::LETTER);
         report.row(&name, Covers::Sample, decided);

@@ -7,11 +7,11 @@ use crate::random::Random;
 use crate::report::{Covers, Extent, Report};
 use crate::tally::{Listed, Tally, share};
 use crate::valid_texts;
+use std::ops::RangeInclusive;
 
 /// Digits at the bounds of months, days and hours; the two bytes beside the digits; what a text may
 /// have beside digits, or an ISO text; and two bytes that are no text's.
 const TELLING: &[u8; 16] = b"01234689.+-/:T\x00\xff";
-const SHORT: u32 = 6;
 
 const FEW: &[u8; 6] = b"019.+-";
 
@@ -21,12 +21,12 @@ const SHAPES: [&[u8]; 4] = [b"dddd.d.d", b"dddd.dd.d", b"dddd.d.dd", b"dddd.dd.d
 pub const LONGEST: usize = 16;
 
 pub fn run(extent: Extent, report: &mut Report) {
-    let shortest = extent.pick(SHORT - 1, SHORT);
-    let name = format!("texts of 0 to {shortest} bytes over 16 telling ones, six kinds");
-    report.row(&name, Covers::All, over(TELLING, 0..=shortest));
-    let longest = extent.pick(8, 10);
-    let name = format!("texts of 7 to {longest} bytes over `0 1 9 . + -`, six kinds");
-    report.row(&name, Covers::All, over(FEW, 7..=longest));
+    let most = extent.pick(5, 6);
+    let name = format!("texts of 0 to {most} bytes over 16 telling ones, six kinds");
+    report.row(&name, Covers::All, over(TELLING, 0..=most));
+    let most = extent.pick(8, 10);
+    let name = format!("texts of 7 to {most} bytes over `0 1 9 . + -`, six kinds");
+    report.row(&name, Covers::All, over(FEW, 7..=most));
     let step = extent.pick(101, 1);
     let name = "all digits in D's four fast shapes, six kinds";
     report.row(name, extent.covers_all(), shapes(step));
@@ -54,7 +54,7 @@ pub fn ask<K: Coded>(tally: &mut Tally, text: &[u8]) -> bool {
 }
 
 /// Every text of these lengths over the alphabet.
-fn over<const N: usize>(alphabet: &[u8; N], lengths: std::ops::RangeInclusive<u32>) -> Tally {
+fn over<const N: usize>(alphabet: &[u8; N], lengths: RangeInclusive<u32>) -> Tally {
     // A part is a length and the first two letters.
     let firsts = (N * N) as u64;
     let lengths: Vec<u32> = lengths.collect();

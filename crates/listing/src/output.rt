@@ -15,9 +15,6 @@ use expanded::Kind;
 use expanded::Packed;
 use formatter::Spelled;
 
-// The byte that ends a line.
-const LINE_END: u8 = 10;
-
 // The letter of a kind.
 pub(crate) fn letter(kind: Kind) -> u8
     ensures { λ r. ⌜ r ≡ letter (kindOf kind) ⌝ }
@@ -41,7 +38,7 @@ pub(crate) fn put_refused(out: &mut [u8], front: u8, n: u8) -> usize
     bytes::copy(b" refused ", &mut out[1..]);
     out[0] = front;
     out[10] = b'0' + n;
-    out[11] = LINE_END;
+    out[11] = crate::LINE_END;
     12
 }
 
@@ -85,6 +82,6 @@ pub(crate) fn put_date(out: &mut [u8], kind: Kind, date: Packed) -> usize
     out[space] = b' ';
     let iso_at = space + 1;
     let end = iso_at + put_iso(&mut out[iso_at..], kind, date);
-    out[end] = LINE_END;
+    out[end] = crate::LINE_END;
     end + 1
 }

@@ -58,11 +58,11 @@ pub(crate) fn put_lines(s: &[u8], out: &mut [u8])
     requires { ⌜ length (printed (now s)) ≤ length (now out) ⌝ }
     ensures { λ _. ⌜ now (out .exit) ≡ placed (printed (now (s .entry))) (now (out .entry)) ⌝ }
 {
-    let mut at = 0;
+    let mut from = 0;
     let mut filled = 0;
-    while at < s.len() {
-        let end = line_end(s, at);
-        filled += put_line(&s[at..end], &mut out[filled..]);
-        at = end + 1;
+    while from < s.len() {
+        let end = line_end(s, from);
+        filled += put_line(&s[from..end], &mut out[filled..]);
+        from = end + 1;
     }
 }

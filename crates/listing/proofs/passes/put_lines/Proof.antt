@@ -13,10 +13,10 @@ use Rattle.listing.proofs.passes.put_lines.Statement.{statement}
 use Rattle.listing.proofs.passes.put_lines.Tie as tie
 
 abbrev Inv-loop : tie.InvT-loop
-Inv-loop s out₀ at₀ filled₀ out at filled = Left (printed (drop at s)) filled out (placed (printed s) out₀) × (length out ≡ length out₀)
+Inv-loop s out₀ from₀ filled₀ out from filled = Left (printed (drop from s)) filled out (placed (printed s) out₀) × (length out ≡ length out₀)
 
 abbrev μ-loop : tie.MeasureT-loop
-μ-loop s out₀ at₀ filled₀ out at filled = length s - at
+μ-loop s out₀ from₀ filled₀ out from filled = length s - from
 
 loop-holds : tie.Need-loop-holds Inv-loop μ-loop
 loop-holds c = ((refl, omega (arith, c .before .before .pre)), refl)
@@ -29,22 +29,22 @@ part-put-line-start-2 c = omega (arith, c .before .before .before .loop .inv .0 
 
 put-line-requires : tie.Need-put-line-requires Inv-loop μ-loop
 put-line-requires c κs =
-    left-room (c .before .before .before .before .loop .out) (lineOutput (take (c .before .before .line-end .result - c .before .before .before .before .loop .at) (drop (c .before .before .before .before .loop .at) (c .before .before .before .before .before .before .before .args .s .now)))) (printed (drop (c .before .before .line-end .result + 1) (c .before .before .before .before .before .before .before .args .s .now))) (c .before .before .before .before .loop .filled) (printed-first _ _ _ (c .before .before .line-end .ensures .1)) (c .before .before .before .before .loop .inv .0)
+    left-room (c .before .before .before .before .loop .out) (lineOutput (take (c .before .before .line-end .result - c .before .before .before .before .loop .from) (drop (c .before .before .before .before .loop .from) (c .before .before .before .before .before .before .before .args .s .now)))) (printed (drop (c .before .before .line-end .result + 1) (c .before .before .before .before .before .before .before .args .s .now))) (c .before .before .before .before .loop .filled) (printed-first _ _ _ (c .before .before .line-end .ensures .1)) (c .before .before .before .before .loop .inv .0)
 
 add-filled : tie.Need-add-filled Inv-loop μ-loop
 add-filled c =
-    let k = step-kept {text = lineOutput (take (c .before .before .before .before .before .line-end .result - c .before .before .before .before .before .before .before .loop .at) (drop (c .before .before .before .before .before .before .before .loop .at) (c .before .before .before .before .before .before .before .before .before .before .args .s .now)))} {rest = printed (drop (c .before .before .before .before .before .line-end .result + 1) (c .before .before .before .before .before .before .before .before .before .before .args .s .now))} (record { begins = printed-first _ _ _ (c .before .before .before .before .before .line-end .ensures .1); long = c .before .before .put-line .ensures .0; wrote = c .before .before .put-line .ensures .1; left = c .before .before .before .before .before .before .before .loop .inv .0 }) in omega (arith, k .1)
+    let k = step-kept {text = lineOutput (take (c .before .before .before .before .before .line-end .result - c .before .before .before .before .before .before .before .loop .from) (drop (c .before .before .before .before .before .before .before .loop .from) (c .before .before .before .before .before .before .before .before .before .before .args .s .now)))} {rest = printed (drop (c .before .before .before .before .before .line-end .result + 1) (c .before .before .before .before .before .before .before .before .before .before .args .s .now))} (record { begins = printed-first _ _ _ (c .before .before .before .before .before .line-end .ensures .1); long = c .before .before .put-line .ensures .0; wrote = c .before .before .put-line .ensures .1; left = c .before .before .before .before .before .before .before .loop .inv .0 }) in omega (arith, k .1)
 
 loop-again : tie.Need-loop-again Inv-loop μ-loop
 loop-again c =
-    let s : Step (c .before .before .before .before .before .before .before .loop .out) (c .before .before .put-line .last .1 .0) (lineOutput (take (c .before .before .before .before .before .line-end .result - c .before .before .before .before .before .before .before .loop .at) (drop (c .before .before .before .before .before .before .before .loop .at) (c .before .before .before .before .before .before .before .before .before .before .args .s .now)))) (printed (drop (c .before .before .before .before .before .line-end .result + 1) (c .before .before .before .before .before .before .before .before .before .before .args .s .now))) _ _ (c .before .before .before .before .before .before .before .loop .filled) (c .before .before .put-line .result) = record { begins = printed-first _ _ _ (c .before .before .before .before .before .line-end .ensures .1); long = c .before .before .put-line .ensures .0; wrote = c .before .before .put-line .ensures .1; left = c .before .before .before .before .before .before .before .loop .inv .0 } in (left-step s, step-kept s .0 ∙ c .before .before .before .before .before .before .before .loop .inv .1)
+    let s : Step (c .before .before .before .before .before .before .before .loop .out) (c .before .before .put-line .last .1 .0) (lineOutput (take (c .before .before .before .before .before .line-end .result - c .before .before .before .before .before .before .before .loop .from) (drop (c .before .before .before .before .before .before .before .loop .from) (c .before .before .before .before .before .before .before .before .before .before .args .s .now)))) (printed (drop (c .before .before .before .before .before .line-end .result + 1) (c .before .before .before .before .before .before .before .before .before .before .args .s .now))) _ _ (c .before .before .before .before .before .before .before .loop .filled) (c .before .before .put-line .result) = record { begins = printed-first _ _ _ (c .before .before .before .before .before .line-end .ensures .1); long = c .before .before .put-line .ensures .0; wrote = c .before .before .put-line .ensures .1; left = c .before .before .before .before .before .before .before .loop .inv .0 } in (left-step s, step-kept s .0 ∙ c .before .before .before .before .before .before .before .loop .inv .1)
 
 same-length : tie.Need-same-length Inv-loop μ-loop
 same-length c = c .before .loop .inv .1
 
 returns : tie.Need-returns Inv-loop μ-loop
 returns c =
-    left-none _ _ _ (printed-none (c .before .before .before .before .args .s .now) (c .before .loop .at) (c .loop-test .left)) (c .before .loop .inv .0)
+    left-none _ _ _ (printed-none (c .before .before .before .before .args .s .now) (c .before .loop .from) (c .loop-test .left)) (c .before .loop .inv .0)
 
 pub put-lines-spec : {M : Type 1} → statement M
 put-lines-spec =

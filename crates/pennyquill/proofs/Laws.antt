@@ -1,4 +1,5 @@
--- The boundary's laws: fields that are wider than those of any date, and a date's number handed in again. Assumes nothing.
+-- The boundary's laws: fields that are wider than those of any date, a kind by its code, and a date's number handed in again.
+-- Assumes nothing.
 use mathlib.Core.Path.{_≡_, refl, sym, ap, _∙_}
 use mathlib.Core.Bool.{Bool, true, false}
 use Prim.Native.Nat.{ℕ, _+_, _*_, _/_, _%_, _≤_, _<_}
@@ -8,11 +9,11 @@ use Rattle.sign.specs.Halves.{up, dn, Halved}
 use Rattle.sign.proofs.Laws.{as-sub}
 use Rattle.rules.specs.Refusals.{Answer, Gives, Refused, demand}
 use Rattle.rules.specs.Kinds.{Kind, Fields, ofKind, made, packed, stored}
-use Rattle.rules.specs.Book.{twosComplement, yearOfTwos}
+use Rattle.rules.specs.Book.{kindCode, kindOfCode, twosComplement, entryFor}
 use Rattle.rules.proofs.KindLaws.{fit}
 use Rattle.rules.proofs.OrderLaws.{day-small, hour-small}
 use Rattle.rules.proofs.PackLaws.{handed-back, word-fits}
-use Rattle.rules.proofs.EntryLaws.{twos-fit, year-back}
+use Rattle.rules.proofs.EntryLaws.{code-back, twos-fit, year-back}
 use Rattle.pennyquill.specs.Boundary.{dateNumber, dateIn}
 
 -- ---- fields
@@ -47,6 +48,13 @@ no-date k n f never = inner (ofKind k f) refl
     inner : (t : Bool) → ofKind k f ≡ t → demand t n (Gives f) ≡ Refused n
     inner true p = absurd (never (narrow k f p))
     inner false p = refl
+
+-- ---- a kind by its code
+
+-- the record of a date is by the kind
+pub entry-code : (code : ℕ) {k : Kind} (year : ℤ) (word : ℕ) → kindOfCode code ≡ Gives k → entryFor code year word ≡ entryFor (kindCode k) year word
+unfolding entryFor
+entry-code code {k = k} year word e = rw (e, code-back k)
 
 -- ---- a date's number
 

@@ -13,7 +13,7 @@ use formatter::Spelled;
 const BUFFER_SHORT: u32 = 7;
 
 fn text_crossed(text: Spelled) -> PqAnswer
-    requires { ⌜ numberOf (spelled text) ≤ 15 ⌝ }
+    requires { ⌜ numberOf (spelled text) ≤ 4096 ⌝ }
     ensures { λ r. ⌜ r ≡ crossed (spelled text) ⌝ }
 {
     match text {

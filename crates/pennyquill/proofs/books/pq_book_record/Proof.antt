@@ -1,22 +1,16 @@
+-- `pennyquill::books::pq_book_record` meets its contract: the book's own. Assumes nothing.
+use mathlib.Core.Path.{ap, _∙_}
+use Rattle.pennyquill.specs.Boundary.{recordCrossed}
+use Rattle.pennyquill.proofs.Sizes.{record-small}
 use borrow.Author.Needs.{needs}
 use Rattle.pennyquill.proofs.books.pq_book_record.Statement.{statement}
 use Rattle.pennyquill.proofs.books.pq_book_record.Tie as tie
-use Rattle.pennyquill.proofs.books.pq_book_record.Reads as reads
-use Rattle.pennyquill.proofs.books.pq_book_record.Lts as lts
-use Rattle.book.proofs.record_at.Reads as record-at-reads
-use Rattle.pennyquill.proofs.books.record_crossed.Reads as record-crossed-reads
 
--- src/books.rt:135:20
-record-at-requires : tie.Need-record-at-requires
-record-at-requires c κs = search needs
-
--- src/books.rt:135:5
 record-crossed-requires : tie.Need-record-crossed-requires
-record-crossed-requires c κs = ?
+record-crossed-requires c κs = rw (c .record-at .ensures) (record-small _ _)
 
--- src/books.rt:131:1
 returns : tie.Need-returns
-returns c = ?
+returns c = c .record-crossed .ensures ∙ ap recordCrossed (c .before .record-at .ensures)
 
 pub pq-book-record-spec : {M : Type 1} → statement M
-pq-book-record-spec = tie.close (tie.spec record-at-requires record-crossed-requires returns)
+pq-book-record-spec = tie.close (tie.spec (λ c κs. search needs) record-crossed-requires returns)

@@ -1,65 +1,35 @@
+-- `pennyquill::texts::pq_write_iso` meets its contract: the kind by its code, then the text of the date. Assumes nothing.
+use mathlib.Core.Path.{refl, sym, ap, _∙_}
+use Rattle.rules.specs.Spelling.{putAnswer, putBuffer}
+use Rattle.pennyquill.specs.Boundary.{crossed, coded}
+use Rattle.pennyquill.proofs.Sizes.{iso-small}
 use borrow.Author.Needs.{needs}
 use Rattle.pennyquill.proofs.texts.pq_write_iso.Statement.{statement}
 use Rattle.pennyquill.proofs.texts.pq_write_iso.Tie as tie
-use Rattle.pennyquill.proofs.texts.pq_write_iso.Reads as reads
-use Rattle.pennyquill.proofs.texts.pq_write_iso.Lts as lts
-use Rattle.formatter.proofs.iso_8601.Reads as iso-8601-reads
-use Rattle.pennyquill.proofs.crossing.date_in.Reads as date-in-reads
-use Rattle.pennyquill.proofs.crossing.kind_of_code.Reads as kind-of-code-reads
-use Rattle.pennyquill.proofs.crossing.not_of_kind.Reads as not-of-kind-reads
-use Rattle.pennyquill.proofs.texts.text_crossed.Reads as text-crossed-reads
 
--- src/texts.rt:42:29
-kind-of-code-requires : tie.Need-kind-of-code-requires
-kind-of-code-requires c κs = search needs
-
--- src/texts.rt:42:21
-enum-known-kind : tie.Need-enum-known-kind
-enum-known-kind c = search needs
-
--- src/texts.rt:43:9
-enum-told : tie.Need-enum-told
-enum-told c = search needs
-
--- src/texts.rt:43:9
-not-of-kind-requires : tie.Need-not-of-kind-requires
-not-of-kind-requires c κs = search needs
-
--- src/texts.rt:43:9
 returns : tie.Need-returns
-returns c = ?
+unfolding putAnswer putBuffer
+returns c =
+    rw (sym (c .before .before .before .kind-of-code .ensures) ∙ ap coded (c .before .enum-told .given .1)) (c .not-of-kind .ensures, refl)
 
--- src/texts.rt:45:44
-date-in-requires : tie.Need-date-in-requires
-date-in-requires c κs = search needs
-
--- src/texts.rt:45:18
-iso-8601-requires : tie.Need-iso-8601-requires
-iso-8601-requires c κs = search needs
-
--- src/texts.rt:45:5
 text-crossed-requires : tie.Need-text-crossed-requires
-text-crossed-requires c κs = ?
+text-crossed-requires c κs = rw (c .before .before .iso-8601 .ensures .0) (iso-small _ _ _ _)
 
--- src/texts.rt:37:1
-same-length : tie.Need-same-length
-same-length c = search needs
-
--- src/texts.rt:37:1
 returns-2 : tie.Need-returns-2
-returns-2 c = ?
+returns-2 c =
+    rw (sym (c .before .before .before .before .before .before .before .before .before .kind-of-code .ensures) ∙ ap coded (c .before .before .before .before .before .before .before .kind .given .1), ← c .before .before .before .before .before .date-in .ensures .0, ← c .before .before .before .before .before .date-in .ensures .1) (c .text-crossed .ensures ∙ ap crossed (c .before .before .before .iso-8601 .ensures .0), c .before .before .before .iso-8601 .ensures .1 .0)
 
 pub pq-write-iso-spec : {M : Type 1} → statement M
 pq-write-iso-spec =
     tie.close
     (tie.spec
-    kind-of-code-requires
-    enum-known-kind
-    enum-told
-    not-of-kind-requires
+    (λ c κs. search needs)
+    (λ c. search needs)
+    (λ c. search needs)
+    (λ c κs. search needs)
     returns
-    date-in-requires
-    iso-8601-requires
+    (λ c κs. search needs)
+    (λ c κs. search needs)
     text-crossed-requires
-    same-length
+    (λ c. search needs)
     returns-2)

@@ -1,63 +1,32 @@
+-- `pennyquill::texts::text_crossed` meets its contract, case by case. Assumes nothing.
+use native.Mathlib.Omega.{arith}
 use borrow.Author.Needs.{needs}
 use Rattle.pennyquill.proofs.texts.text_crossed.Statement.{statement}
 use Rattle.pennyquill.proofs.texts.text_crossed.Tie as tie
-use Rattle.pennyquill.proofs.texts.text_crossed.Reads as reads
-use Rattle.pennyquill.proofs.texts.text_crossed.Lts as lts
-use Rattle.pennyquill.proofs.crossing.gives.Reads as gives-reads
-use Rattle.pennyquill.proofs.crossing.not_of_kind.Reads as not-of-kind-reads
-use Rattle.pennyquill.proofs.crossing.refused.Reads as refused-reads
 
--- src/texts.rt:20:25
-enum-known-text : tie.Need-enum-known-text
-enum-known-text c = search needs
-
--- src/texts.rt:20:47
 cast-gives : tie.Need-cast-gives
-cast-gives c = ?
+cast-gives c = omega (arith, rw (c .before .text .given .1) at (c .before .before .before .pre))
 
--- src/texts.rt:20:31
-gives-requires : tie.Need-gives-requires
-gives-requires c κs = search needs
-
--- src/texts.rt:21:31
-enum-told : tie.Need-enum-told
-enum-told c = search needs
-
--- src/texts.rt:21:31
-not-of-kind-requires : tie.Need-not-of-kind-requires
-not-of-kind-requires c κs = search needs
-
--- src/texts.rt:22:27
-enum-told-2 : tie.Need-enum-told-2
-enum-told-2 c = search needs
-
--- src/texts.rt:22:27
-refused-requires : tie.Need-refused-requires
-refused-requires c κs = search needs
-
--- src/texts.rt:15:1
 returns : tie.Need-returns
-returns c = ?
+returns c = rw (c .before .before .text .given .1) (c .gives .ensures)
 
--- src/texts.rt:15:1
 returns-2 : tie.Need-returns-2
-returns-2 c = search needs
+returns-2 c = rw (c .before .enum-told .given .1) (c .not-of-kind .ensures)
 
--- src/texts.rt:15:1
 returns-3 : tie.Need-returns-3
-returns-3 c = ?
+returns-3 c = rw (c .before .enum-told2 .given .1) (c .refused .ensures)
 
 pub text-crossed-spec : {M : Type 1} → statement M
 text-crossed-spec =
     tie.close
     (tie.spec
-    enum-known-text
+    (λ c. search needs)
     cast-gives
-    gives-requires
-    enum-told
-    not-of-kind-requires
-    enum-told-2
-    refused-requires
+    (λ c κs. search needs)
+    (λ c. search needs)
+    (λ c κs. search needs)
+    (λ c. search needs)
+    (λ c κs. search needs)
     returns
     returns-2
     returns-3)

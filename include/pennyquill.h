@@ -13,9 +13,9 @@
  *    4 not of that kind
  * At 11 value is the place; at every other refusal all other members are 0. A refusal leaves every byte as it was.
  *
- * A text, a buffer or a book is a pointer and the number of bytes there, of which none beyond is touched; it need not be
- * aligned, and no text ends in a byte 0. No function keeps a pointer, allocates, or has a state of its own, so any number
- * of threads may call them.
+ * A text, a buffer or a book is a pointer and the number of bytes there. No byte beyond them is touched; where there are
+ * none, any pointer will do. It need not be aligned, and no text ends in a byte 0. No function keeps a pointer, allocates
+ * or has a state of its own, so that any number of threads may call them.
  */
 #ifndef PENNYQUILL_H
 #define PENNYQUILL_H

@@ -2,7 +2,7 @@
 -- Assumes nothing.
 use mathlib.Core.Path.{_≡_, refl, sym, ap, _∙_}
 use mathlib.Core.Bool.{Bool, true, false}
-use Prim.Native.Nat.{ℕ, _+_, _*_, _/_, _%_, _≤_, _<_}
+use Prim.Native.Nat.{ℕ, _/_, _%_, _≤_, _<_}
 use native.Mathlib.Omega.{arith}
 use lib.IntN.{ℤ, subℕ}
 use Rattle.sign.specs.Halves.{up, dn, Halved}
@@ -14,7 +14,8 @@ use Rattle.rules.proofs.KindLaws.{fit}
 use Rattle.rules.proofs.OrderLaws.{day-small, hour-small}
 use Rattle.rules.proofs.PackLaws.{handed-back, word-fits}
 use Rattle.rules.proofs.EntryLaws.{code-back, twos-fit, year-back}
-use Rattle.pennyquill.specs.Boundary.{dateNumber, dateIn}
+use Rattle.pennyquill.specs.declared.crossing.Coded.{Coded}
+use Rattle.pennyquill.specs.Boundary.{dateNumber, dateIn, coded}
 
 -- ---- fields
 
@@ -50,6 +51,10 @@ no-date k n f never = inner (ofKind k f) refl
     inner false p = refl
 
 -- ---- a kind by its code
+
+-- what the code's view says of the answer that it is matched with
+pub by-code : {x : Answer Kind} {r v : Coded} → coded r ≡ x → r ≡ v → x ≡ coded v
+by-code e told = sym e ∙ ap coded told
 
 -- the record of a date is by the kind
 pub entry-code : (code : ℕ) {k : Kind} (year : ℤ) (word : ℕ) → kindOfCode code ≡ Gives k → entryFor code year word ≡ entryFor (kindCode k) year word

@@ -2,7 +2,7 @@
 use mathlib.Core.Path.{_≡_, refl}
 use mathlib.Core.Bool.{Bool, true, false, cond, _&&_}
 use mathlib.Core.List.{List, [], _∷_}
-use Prim.Native.Nat.{ℕ, zero, suc, _+_, _*_, _-_, _/_, _%_, _≤_, zero-le}
+use Prim.Native.Nat.{ℕ, zero, suc, _+_, _-_, _/_, _%_, _≤_, zero-le}
 use native.Mathlib.Omega.{arith}
 use borrow.Author.Tests.{ltb-true}
 use lib.Dec.{leb, ltb, eqb}
@@ -22,7 +22,7 @@ use Rattle.pennyquill.specs.Boundary.{numberOf, placeOf}
 -- ---- what an answer carries
 
 -- P holds of its value; a place is at most 4,096, as is every number here
-abbrev pub Small : {A : Type 0} → (A → Type 0) → Answer A → Type 0
+abbrev Small : {A : Type 0} → (A → Type 0) → Answer A → Type 0
 Small P (Gives a) = P a
 Small P (Refused n) = Unit {0}
 Small P (RefusedAt n place) = place ≤ 4096

@@ -3,11 +3,10 @@ use Prim.Native.Nat.{ℕ, _+_, _*_, _/_, _%_}
 use lib.IntN.{ℤ, pos}
 use Rattle.rules.specs.Words.{minus}
 use Rattle.rules.specs.Refusals.{Answer, Gives, Refused, RefusedAt, _then_, notOfKind}
-use Rattle.rules.specs.Kinds.{Kind, Fields, Stored, stored, store, handedIn}
+use Rattle.rules.specs.Kinds.{Kind, Fields, Stored, store, handedIn}
 use Rattle.rules.specs.Days.{Order, Before, Same, After}
-use Rattle.rules.specs.Book.{Entry, kindCode, kindOfCode, twosComplement, yearOfTwos}
+use Rattle.rules.specs.Book.{kindCode, kindOfCode, twosComplement, yearOfTwos}
 use Rattle.book.specs.Views.{Bits}
-use Rattle.expanded.specs.declared.Kind.{Kind as CodeKind}
 use Rattle.expanded.specs.Views.{kindOf}
 use Rattle.pennyquill.specs.declared.crossing.Coded.{Coded}
 use Rattle.pennyquill.specs.declared.crossing.Coded.the-variants as C

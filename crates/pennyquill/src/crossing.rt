@@ -1,7 +1,6 @@
 // A kind and a date as the numbers that cross, and the answers that have no value.
 ghost use mathlib.Core.Path.{_≡_};
 ghost use Prim.Native.Nat.{_<_};
-ghost use lib.IntN.{pos};
 ghost use Rattle.rules.specs.Refusals.{Gives, Refused, notOfKind};
 ghost use Rattle.rules.specs.Book.{kindCode, kindOfCode, twosComplement, yearOfTwos};
 ghost use Rattle.expanded.specs.Views.{kindOf, bitsOf};

@@ -1,8 +1,8 @@
 -- `pennyquill::books::pq_book_append` meets its contract: the kind by its code, then the record of the date. Assumes nothing.
-use mathlib.Core.Path.{refl, sym, ap, _∙_}
+use mathlib.Core.Path.{refl, ap, _∙_}
 use Rattle.rules.specs.Book.{appendAnswer, appendBuffer, entryFor}
-use Rattle.pennyquill.specs.Boundary.{crossed, coded}
-use Rattle.pennyquill.proofs.Laws.{entry-code}
+use Rattle.pennyquill.specs.Boundary.{crossed}
+use Rattle.pennyquill.proofs.Laws.{by-code, entry-code}
 use Rattle.pennyquill.proofs.Sizes.{append-small}
 use borrow.Author.Needs.{needs}
 use Rattle.pennyquill.proofs.books.pq_book_append.Statement.{statement}
@@ -11,14 +11,14 @@ use Rattle.pennyquill.proofs.books.pq_book_append.Tie as tie
 returns : tie.Need-returns
 unfolding appendAnswer appendBuffer entryFor
 returns c =
-    rw (sym (c .before .before .before .kind-of-code .ensures) ∙ ap coded (c .before .enum-told .given .1)) (c .not-of-kind .ensures, refl)
+    rw (by-code (c .before .before .before .kind-of-code .ensures) (c .before .enum-told .given .1)) (c .not-of-kind .ensures, refl)
 
 place-crossed-requires : tie.Need-place-crossed-requires
 place-crossed-requires c κs = rw (c .before .before .append .ensures .0) (append-small _ _ _ _)
 
 returns-2 : tie.Need-returns-2
 returns-2 c =
-    rw (entry-code _ _ _ (sym (c .before .before .before .before .before .before .before .before .before .kind-of-code .ensures) ∙ ap coded (c .before .before .before .before .before .before .before .kind .given .1)), ← c .before .before .before .before .date-in .ensures .0, ← c .before .before .before .before .date-in .ensures .1) (c .place-crossed .ensures ∙ ap crossed (c .before .before .before .append .ensures .0), c .before .before .before .append .ensures .1)
+    rw (entry-code _ _ _ (by-code (c .before .before .before .before .before .before .before .before .before .kind-of-code .ensures) (c .before .before .before .before .before .before .before .kind .given .1)), ← c .before .before .before .before .date-in .ensures .0, ← c .before .before .before .before .date-in .ensures .1) (c .place-crossed .ensures ∙ ap crossed (c .before .before .before .append .ensures .0), c .before .before .before .append .ensures .1)
 
 pub pq-book-append-spec : {M : Type 1} → statement M
 pq-book-append-spec =

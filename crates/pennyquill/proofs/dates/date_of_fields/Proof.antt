@@ -1,6 +1,6 @@
 -- `pennyquill::dates::date_of_fields` meets its contract: one wide field is enough for a refusal. Assumes nothing.
 use native.Mathlib.Omega.{arith}
-use mathlib.Core.Path.{_≡_, ap, _∙_}
+use mathlib.Core.Path.{ap, _∙_}
 use mir.Syntax.{w16}
 use mir.Facts.{toZ-ofZ}
 use Rattle.sign.specs.Halves.{Halved}

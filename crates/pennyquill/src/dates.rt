@@ -10,8 +10,8 @@ ghost use Rattle.by_kind.specs.Views.{parsed};
 ghost use Rattle.pennyquill.specs.Boundary.{ofKindGiven, bitsCrossed, dateCrossed};
 use crate::PqAnswer;
 use crate::crossing;
-use crate::crossing::Coded;
 use by_kind::Parsed;
+use codes::Coded;
 use expanded::Kind;
 use expanded::Made;
 use number::Guess;
@@ -39,7 +39,7 @@ fn text_crossed(text: Parsed) -> PqAnswer
 pub extern "C" fn pq_read_text(kind: u32, text: &[u8]) -> PqAnswer
     ensures { λ r. ⌜ r ≡ dateCrossed (ofKindGiven kind (λ k. readText k (now (text .entry)))) ⌝ }
 {
-    let Coded::Kind(kind) = crossing::kind_of_code(kind) else {
+    let Coded::Kind(kind) = codes::kind_of_code(kind) else {
         return crossing::not_of_kind();
     };
     text_crossed(by_kind::parse(kind, text))
@@ -97,7 +97,7 @@ fn guess_crossed(guess: Guess) -> PqAnswer
 pub extern "C" fn pq_read_number(kind: u32, number: i32) -> PqAnswer
     ensures { λ r. ⌜ r ≡ dateCrossed (ofKindGiven kind (λ k. readNumber k number)) ⌝ }
 {
-    let Coded::Kind(kind) = crossing::kind_of_code(kind) else {
+    let Coded::Kind(kind) = codes::kind_of_code(kind) else {
         return crossing::not_of_kind();
     };
     if reads_numbers(kind) {
@@ -110,7 +110,7 @@ pub extern "C" fn pq_read_number(kind: u32, number: i32) -> PqAnswer
 pub extern "C" fn pq_guess_number(kind: u32, number: i32) -> PqAnswer
     ensures { λ r. ⌜ r ≡ dateCrossed (ofKindGiven kind (λ k. guessNumber k number)) ⌝ }
 {
-    let Coded::Kind(kind) = crossing::kind_of_code(kind) else {
+    let Coded::Kind(kind) = codes::kind_of_code(kind) else {
         return crossing::not_of_kind();
     };
     if has_guess(kind) {
@@ -174,7 +174,7 @@ fn date_of_fields(kind: Kind, year: i32, month: u32, day: u32, hour: u32) -> PqA
 pub extern "C" fn pq_from_fields(kind: u32, year: i32, month: u32, day: u32, hour: u32) -> PqAnswer
     ensures { λ r. ⌜ r ≡ dateCrossed (ofKindGiven kind (λ k. fromFields k (record { year = year; month = month; day = day; hour = hour }))) ⌝ }
 {
-    let Coded::Kind(kind) = crossing::kind_of_code(kind) else {
+    let Coded::Kind(kind) = codes::kind_of_code(kind) else {
         return crossing::not_of_kind();
     };
     date_of_fields(kind, year, month, day, field_set_hour(kind, hour))

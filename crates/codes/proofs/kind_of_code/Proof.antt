@@ -1,9 +1,9 @@
--- `book::slots::kind_of_code` meets its contract: at each code the definition computes, and at any other number it refuses. Assumes nothing.
+-- `codes::kind_of_code` meets its contract: at each code the definition computes, and at any other number it refuses. Assumes nothing.
 use mathlib.Core.Path.{sym, ap}
 use borrow.Author.Tests.{ne-eqb}
 use Rattle.rules.specs.Book.{kindOfCode}
-use Rattle.book.proofs.slots.kind_of_code.Statement.{statement}
-use Rattle.book.proofs.slots.kind_of_code.Tie as tie
+use Rattle.codes.proofs.kind_of_code.Statement.{statement}
+use Rattle.codes.proofs.kind_of_code.Tie as tie
 
 returns : tie.Need-returns
 unfolding kindOfCode

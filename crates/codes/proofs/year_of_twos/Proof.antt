@@ -1,11 +1,11 @@
--- `pennyquill::crossing::year_of_twos` meets its contract, by the half in which the number lies. Assumes nothing.
+-- `codes::year_of_twos` meets its contract, by the half in which the number lies. Assumes nothing.
 use mathlib.Core.Path.{sym, _∙_}
 use mir.Syntax.{w16}
 use Rattle.sign.proofs.Bits.{held}
 use Rattle.rules.proofs.EntryLaws.{year-above, year-below}
 use borrow.Author.Needs.{needs}
-use Rattle.pennyquill.proofs.crossing.year_of_twos.Statement.{statement}
-use Rattle.pennyquill.proofs.crossing.year_of_twos.Tie as tie
+use Rattle.codes.proofs.year_of_twos.Statement.{statement}
+use Rattle.codes.proofs.year_of_twos.Tie as tie
 
 returns : tie.Need-returns
 returns c = held w16 (c .int16 .ok) ∙ c .int16 .ensures ∙ sym (year-above _ (c .before .if1 .taken))

@@ -2,7 +2,7 @@
 ghost use mathlib.Core.Path.{_≡_};
 ghost use Rattle.rules.specs.Refusals.{notOfKind};
 ghost use Rattle.rules.specs.Kinds.{fieldSetHour, made, fromFields};
-ghost use Rattle.rules.specs.Numbers.{readsNumbers, readNumber, guesses, guessNumber};
+ghost use Rattle.rules.specs.Numbers.{readNumber, guessNumber};
 ghost use Rattle.rules.specs.Text.{readText};
 ghost use Rattle.expanded.specs.Views.{kindOf, answer};
 ghost use Rattle.number.specs.Views.{readAs, guessedAs};
@@ -47,34 +47,6 @@ pub extern "C" fn pq_read_text(kind: u32, text: &[u8]) -> PqAnswer
 
 // ---- from a number
 
-// "U reads no number outside text"
-fn reads_numbers(kind: Kind) -> bool
-    ensures { λ r. ⌜ r ≡ readsNumbers (kindOf kind) ⌝ }
-{
-    match kind {
-        Kind::Raw => true,
-        Kind::Date => true,
-        Kind::Hour => true,
-        Kind::Uniform => false,
-        Kind::Eu5 => true,
-        Kind::Vic3 => true,
-    }
-}
-
-// "R and U have no guess"
-fn has_guess(kind: Kind) -> bool
-    ensures { λ r. ⌜ r ≡ guesses (kindOf kind) ⌝ }
-{
-    match kind {
-        Kind::Raw => false,
-        Kind::Date => true,
-        Kind::Hour => true,
-        Kind::Uniform => false,
-        Kind::Eu5 => true,
-        Kind::Vic3 => true,
-    }
-}
-
 fn read_crossed(read: Read) -> PqAnswer
     ensures { λ r. ⌜ r ≡ bitsCrossed (readAs read) ⌝ }
 {
@@ -100,7 +72,7 @@ pub extern "C" fn pq_read_number(kind: u32, number: i32) -> PqAnswer
     let Coded::Kind(kind) = codes::kind_of_code(kind) else {
         return crossing::not_of_kind();
     };
-    if reads_numbers(kind) {
+    if number::reads_numbers(kind) {
         return read_crossed(number::from_binary(kind, number));
     }
     crossing::not_of_kind()
@@ -113,7 +85,7 @@ pub extern "C" fn pq_guess_number(kind: u32, number: i32) -> PqAnswer
     let Coded::Kind(kind) = codes::kind_of_code(kind) else {
         return crossing::not_of_kind();
     };
-    if has_guess(kind) {
+    if number::has_guess(kind) {
         return guess_crossed(number::from_binary_heuristic(kind, number));
     }
     crossing::not_of_kind()

@@ -1,4 +1,4 @@
-// Rows `K DATE EXCHANGE`: the exchange text of a date.
+// Rows `K x DATE EXCHANGE`: the exchange text of a date.
 ghost use mathlib.Core.Path.{_≡_};
 ghost use lib.ListN.{drop};
 ghost use Rattle.rules.specs.Kinds.{kR, kD, kH, kU, kE, kV};
@@ -7,13 +7,10 @@ ghost use Rattle.replay.specs.Judged.{exchangesJudged};
 ghost use Rattle.replay.specs.Views.{told};
 ghost use Rattle.replay.specs.Words.{noTextAsked, passedTo};
 use crate::Verdict;
-use crate::Way;
 use crate::answers;
 use crate::answers::Said;
 use crate::dates;
-use crate::line;
 use crate::rows;
-use crate::unread;
 use crate::words;
 use crate::words::Passed;
 use date::Date;
@@ -115,18 +112,7 @@ fn asked(kind: u8, f: Said, row: &[u8], at: usize) -> Passed
 pub(crate) fn judged(row: &[u8]) -> Verdict
     ensures { λ r. ⌜ r ≡ exchangesJudged (now (row .entry)) ⌝ }
 {
-    let f = answers::date(row, rows::after(row, 1, b' '));
+    let f = answers::date(row, rows::after(row, 3, b' '));
     let from = f.next;
     words::judge_rest(row, from, asked(rows::byte(row, 0), f, row, from))
-}
-
-// It prints, which no contract can say.
-pub fn report(s: &[u8]) {
-    line(Way::Exchanges, s, b'R', b'x');
-    line(Way::Exchanges, s, b'D', b'x');
-    line(Way::Exchanges, s, b'H', b'x');
-    line(Way::Exchanges, s, b'U', b'x');
-    line(Way::Exchanges, s, b'E', b'x');
-    line(Way::Exchanges, s, b'V', b'x');
-    unread(Way::Exchanges, s);
 }

@@ -1,4 +1,4 @@
-// Rows `K DATE DATE N`: the order of two dates, -1, 0 or 1.
+// Rows `K o DATE DATE N`: the order of two dates, -1, 0 or 1.
 ghost use mathlib.Core.Path.{_≡_};
 ghost use Rattle.rules.specs.Kinds.{kR, kD, kH, kU, kE, kV};
 ghost use Rattle.expanded.specs.Views.{ordered};
@@ -6,17 +6,14 @@ ghost use Rattle.replay.specs.Asked.{oneOf, allKinds, noNumberAsked, ord
 ghost use Rattle.replay.specs.Judged.{ordersJudged};
 ghost use Rattle.replay.specs.Views.{told, wholeAsked};
 use crate::Verdict;
-use crate::Way;
 use crate::answers;
 use crate::answers::Said;
 use crate::asked_number;
 use crate::dates;
 use crate::judge_number;
-use crate::line;
 use crate::rows;
 use crate::rows::Whole;
 use crate::unasked_number;
-use crate::unread;
 use date::Date;
 use date_hour::DateHour;
 use eu5_date::Eu5Date;
@@ -134,19 +131,8 @@ fn asked(kind: u8, f: Said, g: Said) -> Whole
 pub(crate) fn judged(row: &[u8]) -> Verdict
     ensures { λ r. ⌜ r ≡ ordersJudged (now (row .entry)) ⌝ }
 {
-    let f = answers::date(row, rows::after(row, 1, b' '));
+    let f = answers::date(row, rows::after(row, 3, b' '));
     let g = answers::date(row, rows::after(row, f.next, b' '));
     let said = rows::whole32(row, rows::after(row, g.next, b' '));
     judge_number(row, said, asked(rows::byte(row, 0), f, g))
-}
-
-// It prints, which no contract can say.
-pub fn report(s: &[u8]) {
-    line(Way::Orders, s, b'R', b'o');
-    line(Way::Orders, s, b'D', b'o');
-    line(Way::Orders, s, b'H', b'o');
-    line(Way::Orders, s, b'U', b'o');
-    line(Way::Orders, s, b'E', b'o');
-    line(Way::Orders, s, b'V', b'o');
-    unread(Way::Orders, s);
 }

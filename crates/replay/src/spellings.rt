@@ -1,4 +1,4 @@
-// Rows `K DATE DOTTED ISO`, for E with a third text, the ISO date alone: the texts of a date.
+// Rows `K s DATE DOTTED ISO`, for E with a third text, the ISO date alone: the texts of a date.
 ghost use mathlib.Core.Path.{_≡_};
 ghost use lib.ListN.{drop};
 ghost use Rattle.rules.specs.Kinds.{kR, kD, kH, kU, kE, kV};
@@ -7,13 +7,10 @@ ghost use Rattle.replay.specs.Judged.{spellingsJudged};
 ghost use Rattle.replay.specs.Views.{told};
 ghost use Rattle.replay.specs.Words.{noTextAsked, passedTo};
 use crate::Verdict;
-use crate::Way;
 use crate::answers;
 use crate::answers::Said;
 use crate::dates;
-use crate::line;
 use crate::rows;
-use crate::unread;
 use crate::words;
 use crate::words::Passed;
 use date::Date;
@@ -143,18 +140,7 @@ fn asked(kind: u8, f: Said, row: &[u8], at: usize) -> Passed
 pub(crate) fn judged(row: &[u8]) -> Verdict
     ensures { λ r. ⌜ r ≡ spellingsJudged (now (row .entry)) ⌝ }
 {
-    let f = answers::date(row, rows::after(row, 1, b' '));
+    let f = answers::date(row, rows::after(row, 3, b' '));
     let from = f.next;
     words::judge_rest(row, from, asked(rows::byte(row, 0), f, row, from))
-}
-
-// It prints, which no contract can say.
-pub fn report(s: &[u8]) {
-    line(Way::Spellings, s, b'R', b's');
-    line(Way::Spellings, s, b'D', b's');
-    line(Way::Spellings, s, b'H', b's');
-    line(Way::Spellings, s, b'U', b's');
-    line(Way::Spellings, s, b'E', b's');
-    line(Way::Spellings, s, b'V', b's');
-    unread(Way::Spellings, s);
 }

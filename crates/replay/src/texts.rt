@@ -1,4 +1,4 @@
-// Rows `K "TEXT" DATE`: what a kind reads a text as.
+// Rows `K t "TEXT" DATE`: what a kind reads a text as.
 ghost use mathlib.Core.Path.{_≡_};
 ghost use Prim.Native.Nat.{_≤_};
 ghost use lib.ListN.{length, take};
@@ -7,16 +7,13 @@ ghost use Rattle.replay.specs.Asked.{textAsked, textsAsked};
 ghost use Rattle.replay.specs.Judged.{textsJudged};
 ghost use Rattle.replay.specs.Views.{told};
 use crate::Verdict;
-use crate::Way;
 use crate::answers;
 use crate::answers::Said;
 use crate::dates;
 use crate::judge;
-use crate::line;
 use crate::quoted;
 use crate::rows;
 use crate::unasked;
-use crate::unread;
 use date::Date;
 use date_hour::DateHour;
 use eu5_date::Eu5Date;
@@ -124,20 +121,9 @@ pub(crate) fn judged(row: &[u8]) -> Verdict
     ensures { λ r. ⌜ r ≡ textsJudged (now (row .entry)) ⌝ }
 {
     let mut text = [0u8; 16];
-    let q = quoted::text(row, rows::after(row, 1, b' '), &mut text);
+    let q = quoted::text(row, rows::after(row, 3, b' '), &mut text);
     let len = q.len;
     let next = q.next;
     let said = answers::answer(row, rows::after(row, next, b' '));
     judge(row, said, asked_part(rows::byte(row, 0), &text, len))
-}
-
-// It prints, which no contract can say.
-pub fn report(s: &[u8]) {
-    line(Way::Texts, s, b'R', b't');
-    line(Way::Texts, s, b'D', b't');
-    line(Way::Texts, s, b'H', b't');
-    line(Way::Texts, s, b'U', b't');
-    line(Way::Texts, s, b'E', b't');
-    line(Way::Texts, s, b'V', b't');
-    unread(Way::Texts, s);
 }

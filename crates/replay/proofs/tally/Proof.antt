@@ -12,11 +12,11 @@ use Rattle.replay.proofs.tally.Statement.{statement}
 use Rattle.replay.proofs.tally.Tie as tie
 
 abbrev Inv-loop : tie.InvT-loop
-Inv-loop way s kind mark t₀ at₀ t at =
-    (rowByRow (withRowOf way kind mark) t (rowsOf (drop at s)) ≡ tallyOf way s kind mark) × (at ≤ length s) × (t .rows ≤ at) × (t .wrong ≤ at) × (t .unread ≤ at)
+Inv-loop s kind mark t₀ at₀ t at =
+    (rowByRow (withRowOf kind mark) t (rowsOf (drop at s)) ≡ tallyOf s kind mark) × (at ≤ length s) × (t .rows ≤ at) × (t .wrong ≤ at) × (t .unread ≤ at)
 
 abbrev μ-loop : tie.MeasureT-loop
-μ-loop way s kind mark t₀ at₀ t at = length s - at
+μ-loop s kind mark t₀ at₀ t at = length s - at
 
 loop-holds : tie.Need-loop-holds Inv-loop μ-loop
 unfolding tallyOf

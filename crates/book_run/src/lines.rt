@@ -1,10 +1,8 @@
-// The lines of a script. A reader that does not find its part answers NOWHERE as the place after it, as those of `replay::rows` do, so
+// The lines of a script. A reader that does not find its part answers NOWHERE as the place after it, as those of `rows` do, so
 // that a line is read to its end, and tested once.
 use crate::operations::Operation;
 use expanded::Kind;
 use expanded::Packed;
-use replay::rows;
-use replay::words;
 
 pub(crate) enum Line {
     Remark,
@@ -59,7 +57,7 @@ fn place_of(n: u64) -> usize {
 // ---- what prepares the buffer
 
 fn buffer(row: &[u8]) -> Line {
-    let length = rows::natural(row, words::after_word(row, 0, b"buffer "));
+    let length = rows::natural(row, rows::after_word(row, 0, b"buffer "));
     let byte = rows::natural(row, rows::after(row, length.next, b' '));
     if rows::ends(row, byte.next) {
         if byte.up <= 255 {
@@ -73,7 +71,7 @@ fn buffer(row: &[u8]) -> Line {
 }
 
 fn set(row: &[u8]) -> Line {
-    let place = rows::natural(row, words::after_word(row, 0, b"set "));
+    let place = rows::natural(row, rows::after_word(row, 0, b"set "));
     let byte = rows::natural(row, rows::after(row, place.next, b' '));
     if rows::ends(row, byte.next) {
         if byte.up <= 255 {
@@ -87,7 +85,7 @@ fn set(row: &[u8]) -> Line {
 }
 
 fn copy(row: &[u8]) -> Line {
-    let from = rows::natural(row, words::after_word(row, 0, b"copy "));
+    let from = rows::natural(row, rows::after_word(row, 0, b"copy "));
     let count = rows::natural(row, rows::after(row, from.next, b' '));
     let to = rows::natural(row, rows::after(row, count.next, b' '));
     if rows::ends(row, to.next) {
@@ -103,21 +101,21 @@ fn copy(row: &[u8]) -> Line {
 // ---- the operations
 
 fn new(row: &[u8]) -> Line {
-    if rows::ends(row, words::after_word(row, 0, b"new")) {
+    if rows::ends(row, rows::after_word(row, 0, b"new")) {
         return Line::Operation(Operation::New);
     }
     Line::Unread
 }
 
 fn check(row: &[u8]) -> Line {
-    if rows::ends(row, words::after_word(row, 0, b"check")) {
+    if rows::ends(row, rows::after_word(row, 0, b"check")) {
         return Line::Operation(Operation::Check);
     }
     Line::Unread
 }
 
 fn record(row: &[u8]) -> Line {
-    let place = rows::natural(row, words::after_word(row, 0, b"record "));
+    let place = rows::natural(row, rows::after_word(row, 0, b"record "));
     if rows::ends(row, place.next) {
         let at = place_of(place.up);
         return Line::Operation(Operation::Record(at));
@@ -126,7 +124,7 @@ fn record(row: &[u8]) -> Line {
 }
 
 fn append(row: &[u8]) -> Line {
-    let at = words::after_word(row, 0, b"append ");
+    let at = rows::after_word(row, 0, b"append ");
     let letter = rows::byte(row, at);
     match kind_of(letter) {
         Lettered::Kind(kind) => append_date(row, rows::after(row, at, letter), kind),

@@ -27,7 +27,7 @@ fn run(script: &[u8], room: &mut [u8]) {
     let mut size = 0;
     let mut at = 0;
     while at < script.len() {
-        let end = replay::rows::next_line(script, at);
+        let end = rows::next_line(script, at);
         size = step(&script[at..end], room, size);
         at = end;
     }

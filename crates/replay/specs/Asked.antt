@@ -12,7 +12,7 @@ use Rattle.rules.specs.Days.{Order, Before, Same, After, addDays, difference, o
 use Rattle.rules.specs.Text.{readText}
 use Rattle.rules.specs.Spelling.{dotted, iso, exchange, hasIsoDate, isoDateAlone}
 use Rattle.rules.specs.Listing.{letter}
-use Rattle.replay.specs.Rows.{Told, dateTold, refusedTold}
+use Rattle.replay.specs.Answers.{Told, dateTold, refusedTold}
 use Rattle.replay.specs.Verdicts.{unaskedNumber, unaskedTold}
 use Rattle.replay.specs.Words.{noTextAsked, afterText}
 

@@ -11,7 +11,8 @@ use Rattle.rules.specs.Words.{byte}
 use Rattle.rules.specs.Refusals.{Answer}
 use Rattle.rules.specs.Kinds.{Kind, kD, kH}
 use Rattle.rules.specs.Text.{Read}
-use Rattle.replay.specs.Rows.{Told, firstByte, afterSpace, wholeOf, dateOf, answerOf, rowsOf}
+use Rattle.rows.specs.Rows.{firstByte, afterSpace, wholeOf, rowsOf}
+use Rattle.replay.specs.Answers.{Told, dateOf, answerOf}
 use Rattle.replay.specs.Verdicts.{unaskedTold, judgeOf, judgeNumberOf, judgeRestOf, markOf, pickedOf, countedOf}
 use Rattle.replay.specs.Asked.{oneOf, allKinds, countingKinds, noNumberAsked, textsAsked, numbersAsked, fieldsAsked, additionAsked, binaryAsked, differenceAsked, orderAsked, spellingAsked, exchangeAsked}
 use Rattle.replay.specs.Words.{noTextAsked}

@@ -8,7 +8,8 @@ use lib.ListN.{drop}
 use Rattle.rules.specs.Words.{eqZ, byte}
 use Rattle.rules.specs.Refusals.{Answer, Gives, Refused, RefusedAt}
 use Rattle.rules.specs.Text.{Read}
-use Rattle.replay.specs.Rows.{Told, refusedTold, firstByte, afterSpace, endsRow}
+use Rattle.rows.specs.Rows.{firstByte, afterSpace, endsRow}
+use Rattle.replay.specs.Answers.{Told, refusedTold}
 use Rattle.replay.specs.declared.Verdict.{Verdict}
 use Rattle.replay.specs.declared.Verdict.the-variants.{Right, Wrong, Unread}
 use Rattle.replay.specs.declared.Counts.{Counts}

@@ -12,14 +12,13 @@ use crate::answers::Said;
 use crate::asked_number;
 use crate::dates;
 use crate::judge_number;
-use crate::rows;
-use crate::rows::Whole;
 use crate::unasked_number;
 use date::Date;
 use date_hour::DateHour;
 use expanded::Kind;
 use expanded::Made;
 use number::Written;
+use rows::Whole;
 
 fn number_of(w: Written) -> Whole
     ensures { λ r. ⌜ wholeAsked r ≡ orUnasked (writtenAs w) ⌝ }

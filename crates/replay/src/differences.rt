@@ -11,14 +11,13 @@ use crate::answers::Said;
 use crate::asked_number;
 use crate::dates;
 use crate::judge_number;
-use crate::rows;
-use crate::rows::Whole;
 use crate::unasked_number;
 use date::Date;
 use day_count::Days;
 use eu5_date::Eu5Date;
 use expanded::Kind;
 use expanded::Made;
+use rows::Whole;
 use vic3_date::Vic3Date;
 
 fn number_of(d: Days) -> Whole

@@ -10,7 +10,6 @@ use crate::answers;
 use crate::answers::Said;
 use crate::dates;
 use crate::judge;
-use crate::rows;
 use crate::unasked;
 use date::Date;
 use date_hour::DateHour;

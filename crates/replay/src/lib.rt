@@ -6,9 +6,10 @@ ghost use Prim.Native.Nat.{_+_, _<_, _≤_};
 ghost use Rattle.rules.specs.Refusals.{Gives, Refused};
 ghost use Rattle.replay.specs.Verdicts.{unaskedTold, unaskedNumber, judgeOf, judgeNumberOf, markOf, pickedOf, countedOf};
 ghost use Rattle.replay.specs.Judged.{judgedOf, withRowOf, tallyOf};
-ghost use Rattle.replay.specs.Views.{nowhere, wholeRead, wholeAsked, told, toldRead};
+ghost use Rattle.replay.specs.Views.{wholeAsked, told, toldRead};
+ghost use Rattle.rows.specs.Views.{nowhere, wholeRead};
 use crate::answers::Said;
-use crate::rows::Whole;
+use rows::Whole;
 
 mod additions;
 mod answers;
@@ -20,10 +21,9 @@ mod fields;
 mod numbers;
 mod orders;
 mod quoted;
-pub mod rows;
 mod spellings;
 mod texts;
-pub mod words;
+mod words;
 
 // What became of a row. An unread one is not a row of its file, or asks what the kind does not have.
 enum Verdict {

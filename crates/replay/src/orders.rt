@@ -11,8 +11,6 @@ use crate::answers::Said;
 use crate::asked_number;
 use crate::dates;
 use crate::judge_number;
-use crate::rows;
-use crate::rows::Whole;
 use crate::unasked_number;
 use date::Date;
 use date_hour::DateHour;
@@ -21,6 +19,7 @@ use expanded::Kind;
 use expanded::Made;
 use expanded::Ordered;
 use raw_date::RawDate;
+use rows::Whole;
 use uniform_date::UniformDate;
 use vic3_date::Vic3Date;
 

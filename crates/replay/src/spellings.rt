@@ -10,7 +10,6 @@ use crate::Verdict;
 use crate::answers;
 use crate::answers::Said;
 use crate::dates;
-use crate::rows;
 use crate::words;
 use crate::words::Passed;
 use date::Date;

@@ -12,7 +12,6 @@ use crate::answers::Said;
 use crate::dates;
 use crate::judge;
 use crate::quoted;
-use crate::rows;
 use crate::unasked;
 use date::Date;
 use date_hour::DateHour;

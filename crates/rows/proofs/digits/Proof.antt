@@ -1,14 +1,14 @@
--- `replay::rows::digits` meets its contract. The invariant: what the digits from here on make of the value so far is what is to be
+-- `rows::digits` meets its contract. The invariant: what the digits from here on make of the value so far is what is to be
 -- answered, and the value has at most 18 digits. The measure is what is left of the row. Assumes nothing.
 use borrow.Author.Needs.{needs}
 use native.Mathlib.Omega.{arith}
 use mathlib.Core.Path.{_≡_, refl, sym, _∙_}
 use Prim.Native.Nat.{_+_, _*_, _≤_, _-_}
 use lib.ListN.{length, getD, drop}
-use Rattle.replay.specs.Rows.{mostOfRow, rowDigits}
-use Rattle.replay.proofs.Laws.{digit-goes-on, digit-low, digit-high, digit-end, digit-too-large}
-use Rattle.replay.proofs.rows.digits.Statement.{statement}
-use Rattle.replay.proofs.rows.digits.Tie as tie
+use Rattle.rows.specs.Rows.{mostOfRow, rowDigits}
+use Rattle.rows.proofs.Laws.{digit-goes-on, digit-low, digit-high, digit-end, digit-too-large}
+use Rattle.rows.proofs.digits.Statement.{statement}
+use Rattle.rows.proofs.digits.Tie as tie
 
 abbrev Inv-loop : tie.InvT-loop
 Inv-loop s from value₀ at₀ value at = (rowDigits value (drop at s) ≡ rowDigits 0 (drop from s)) × (value ≤ mostOfRow)

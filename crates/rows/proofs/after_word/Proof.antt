@@ -1,4 +1,4 @@
--- `replay::words::after_word` meets its contract. The invariant: what follows the rest of the word from here is what is to be
+-- `rows::after_word` meets its contract. The invariant: what follows the rest of the word from here is what is to be
 -- answered. The measure is how many bytes of the word are left. Assumes nothing.
 use borrow.Author.Needs.{needs}
 use native.Mathlib.Omega.{arith}
@@ -7,10 +7,10 @@ use mathlib.Core.List.{List}
 use Prim.Native.Nat.{ℕ, _+_, _≤_, _-_}
 use lib.ListN.{length, drop}
 use Rattle.rules.proofs.Rests.{past}
-use Rattle.replay.specs.Rows.{afterWord}
-use Rattle.replay.proofs.Laws.{word-goes-on}
-use Rattle.replay.proofs.words.after_word.Statement.{statement}
-use Rattle.replay.proofs.words.after_word.Tie as tie
+use Rattle.rows.specs.Rows.{afterWord}
+use Rattle.rows.proofs.Laws.{word-goes-on}
+use Rattle.rows.proofs.after_word.Statement.{statement}
+use Rattle.rows.proofs.after_word.Tie as tie
 
 abbrev Inv-loop : tie.InvT-loop
 Inv-loop s at word i₀ place₀ i place = (afterWord (drop i word) (drop place s) ≡ afterWord word (drop at s)) × (i ≤ length word)

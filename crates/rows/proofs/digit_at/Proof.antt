@@ -1,9 +1,9 @@
--- `replay::rows::digit_at` meets its contract: by the byte at the place. Assumes nothing.
+-- `rows::digit_at` meets its contract: by the byte at the place. Assumes nothing.
 use borrow.Author.Tests.{le-leb, lt-leb}
 use Rattle.rules.proofs.Rests.{here, past}
 use borrow.Author.Needs.{needs}
-use Rattle.replay.proofs.rows.digit_at.Statement.{statement}
-use Rattle.replay.proofs.rows.digit_at.Tie as tie
+use Rattle.rows.proofs.digit_at.Statement.{statement}
+use Rattle.rows.proofs.digit_at.Tie as tie
 
 shared-slice-read-b : tie.Need-shared-slice-read-b
 shared-slice-read-b c = search needs

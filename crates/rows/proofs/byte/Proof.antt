@@ -1,8 +1,8 @@
--- `replay::rows::byte` meets its contract: by whether the place is in the row. Assumes nothing.
+-- `rows::byte` meets its contract: by whether the place is in the row. Assumes nothing.
 use Rattle.rules.proofs.Rests.{here, past}
 use borrow.Author.Needs.{needs}
-use Rattle.replay.proofs.rows.byte.Statement.{statement}
-use Rattle.replay.proofs.rows.byte.Tie as tie
+use Rattle.rows.proofs.byte.Statement.{statement}
+use Rattle.rows.proofs.byte.Tie as tie
 
 shared-slice-read-result : tie.Need-shared-slice-read-result
 shared-slice-read-result c = search needs

@@ -1,11 +1,11 @@
--- `replay::rows::after` meets its contract: by the byte at the place. Assumes nothing.
+-- `rows::after` meets its contract: by the byte at the place. Assumes nothing.
 use native.Mathlib.Omega.{arith}
 use borrow.Author.Tests.{eq-eqb, ne-eqb}
 use Rattle.rules.proofs.Rests.{here, past}
-use Rattle.replay.specs.Views.{nowhere}
+use Rattle.rows.specs.Views.{nowhere}
 use borrow.Author.Needs.{needs}
-use Rattle.replay.proofs.rows.after.Statement.{statement}
-use Rattle.replay.proofs.rows.after.Tie as tie
+use Rattle.rows.proofs.after.Statement.{statement}
+use Rattle.rows.proofs.after.Tie as tie
 
 shared-slice-read-if2 : tie.Need-shared-slice-read-if2
 shared-slice-read-if2 c = search needs

@@ -1,9 +1,9 @@
--- `replay::rows::signed` meets its contract: by whether a minus stands there. Assumes nothing.
+-- `rows::signed` meets its contract: by whether a minus stands there. Assumes nothing.
 use borrow.Author.Tests.{eq-eqb, ne-eqb}
-use Rattle.replay.specs.Rows.{signedOf}
+use Rattle.rows.specs.Rows.{signedOf}
 use borrow.Author.Needs.{needs}
-use Rattle.replay.proofs.rows.signed.Statement.{statement}
-use Rattle.replay.proofs.rows.signed.Tie as tie
+use Rattle.rows.proofs.signed.Statement.{statement}
+use Rattle.rows.proofs.signed.Tie as tie
 
 returns : tie.Need-returns
 unfolding signedOf

@@ -1,16 +1,16 @@
--- `replay::rows::whole32` meets its contract: by whether the number fits. Assumes nothing.
+-- `rows::whole32` meets its contract: by whether the number fits. Assumes nothing.
 use native.Mathlib.Omega.{arith}
 use mathlib.Core.Path.{_∙_}
 use mir.Syntax.{w32}
 use borrow.Author.Tests.{le-leb, lt-leb}
 use Rattle.sign.proofs.Bits.{held}
 use Rattle.rules.proofs.Rests.{past}
-use Rattle.replay.specs.Rows.{wholeOf}
-use Rattle.replay.specs.Views.{nowhere}
-use Rattle.replay.proofs.Laws.{read-of}
+use Rattle.rows.specs.Rows.{wholeOf}
+use Rattle.rows.specs.Views.{nowhere}
+use Rattle.rows.proofs.Laws.{read-of}
 use borrow.Author.Needs.{needs}
-use Rattle.replay.proofs.rows.whole32.Statement.{statement}
-use Rattle.replay.proofs.rows.whole32.Tie as tie
+use Rattle.rows.proofs.whole32.Statement.{statement}
+use Rattle.rows.proofs.whole32.Tie as tie
 
 returns : tie.Need-returns
 unfolding wholeOf

@@ -1,10 +1,10 @@
-// The stored rows of answers, read by place. A reader that does not find its part answers NOWHERE as the
+// Rows of a file, read by place. A reader that does not find its part answers NOWHERE as the
 // place after it, and every reader finds nothing there: so a row is read to its end, and tested once.
 ghost use mathlib.Core.Path.{_≡_};
 ghost use Prim.Native.Nat.{_+_, _<_, _≤_};
 ghost use lib.ListN.{length, drop};
-ghost use Rattle.replay.specs.Rows.{firstByte, afterByte, endsRow, noNumber, rowDigits, numbered, startsWithDigit, naturalOf, signedOf, wholeOf, rowLength};
-ghost use Rattle.replay.specs.Views.{number, wholeRead};
+ghost use Rattle.rows.specs.Rows.{firstByte, afterByte, afterWord, endsRow, noNumber, rowDigits, numbered, startsWithDigit, naturalOf, signedOf, wholeOf, rowLength};
+ghost use Rattle.rows.specs.Views.{number, wholeRead};
 
 // A place past the end of every slice.
 pub const NOWHERE: usize = 0xffff_ffff_ffff_ffff;
@@ -22,11 +22,10 @@ pub struct Whole {
     pub next: usize,
 }
 
-// The place after the end of the line that goes on at a place.
+// The place after the end of the line that goes on at a place; the same place where none does.
 pub fn next_line(s: &[u8], from: usize) -> usize
-    requires { ⌜ from < length (now s) ⌝ }
-    ensures { λ r. ⌜ (from < r) × (r ≤ length (now (s .entry))) ⌝ }
     ensures { λ r. ⌜ r ≡ from + rowLength (drop from (now (s .entry))) ⌝ }
+    ensures { λ r. ⌜ (from < length (now (s .entry)) → (from < r) × (r ≤ length (now (s .entry)))) ⌝ }
 {
     let mut at = from;
     while at < s.len() {
@@ -58,6 +57,19 @@ pub fn after(s: &[u8], at: usize, b: u8) -> usize
         }
     }
     NOWHERE
+}
+
+// The place after a word that must stand at a place.
+pub fn after_word(s: &[u8], at: usize, word: &[u8]) -> usize
+    ensures { λ r. ⌜ drop r (now (s .entry)) ≡ afterWord (now (word .entry)) (drop at (now (s .entry))) ⌝ }
+{
+    let mut i = 0;
+    let mut place = at;
+    while i < word.len() {
+        place = after(s, place, word[i]);
+        i += 1;
+    }
+    place
 }
 
 // Whether a row ends at a place: with its line end, and with nothing after it.

@@ -1,10 +1,10 @@
--- `replay::rows::ends` meets its contract: by the byte at the place, and whether one follows. Assumes nothing.
+-- `rows::ends` meets its contract: by the byte at the place, and whether one follows. Assumes nothing.
 use borrow.Author.Tests.{eq-eqb, ne-eqb}
 use Rattle.rules.proofs.Rests.{here, past}
-use Rattle.replay.proofs.Laws.{at-end}
+use Rattle.rows.proofs.Laws.{at-end}
 use borrow.Author.Needs.{needs}
-use Rattle.replay.proofs.rows.ends.Statement.{statement}
-use Rattle.replay.proofs.rows.ends.Tie as tie
+use Rattle.rows.proofs.ends.Statement.{statement}
+use Rattle.rows.proofs.ends.Tie as tie
 
 shared-slice-read-if2 : tie.Need-shared-slice-read-if2
 shared-slice-read-if2 c = search needs

@@ -1,8 +1,8 @@
--- `replay::rows::natural` meets its contract: by whether a digit stands there. Assumes nothing.
-use Rattle.replay.specs.Rows.{naturalOf}
+-- `rows::natural` meets its contract: by whether a digit stands there. Assumes nothing.
+use Rattle.rows.specs.Rows.{naturalOf}
 use borrow.Author.Needs.{needs}
-use Rattle.replay.proofs.rows.natural.Statement.{statement}
-use Rattle.replay.proofs.rows.natural.Tie as tie
+use Rattle.rows.proofs.natural.Statement.{statement}
+use Rattle.rows.proofs.natural.Tie as tie
 
 returns : tie.Need-returns
 unfolding naturalOf

@@ -18,6 +18,7 @@ mod dates;
 mod differences;
 mod exchanges;
 mod fields;
+mod kinds;
 mod numbers;
 mod orders;
 mod quoted;

@@ -1,7 +1,7 @@
--- `replay::orders::hour` meets its contract: by the two dates that the row names. Assumes nothing.
+-- `replay::orders::of_kind` meets its contract: by the two dates that the row names. Assumes nothing.
 use borrow.Author.Needs.{needs}
-use Rattle.replay.proofs.orders.hour.Statement.{statement}
-use Rattle.replay.proofs.orders.hour.Tie as tie
+use Rattle.replay.proofs.orders.of_kind.Statement.{statement}
+use Rattle.replay.proofs.orders.of_kind.Tie as tie
 
 returns : tie.Need-returns
 returns c =
@@ -15,8 +15,8 @@ returns-3 : tie.Need-returns-3
 returns-3 c =
     rw (c .number-of .ensures, ← (c .before .before .before .before .before .before .before .before .before .packed .ensures), c .before .before .before .before .before .before .before .raw .given .1, ← (c .before .before .before .before .before .packed2 .ensures), c .before .before .before .other .given .1, c .before .compare .ensures)
 
-pub hour-spec : {M : Type 1} → statement M
-hour-spec =
+pub of-kind-spec : {M : Type 1} → statement M
+of-kind-spec =
     tie.close
     (tie.spec
     (λ c κs. search needs)

@@ -3,6 +3,7 @@
 use crate::operations::Operation;
 use expanded::Kind;
 use expanded::Packed;
+use rows::Lettered;
 
 pub(crate) enum Line {
     Remark,
@@ -21,11 +22,6 @@ pub(crate) enum Line {
     },
     Operation(Operation),
     Unread,
-}
-
-enum Lettered {
-    Kind(Kind),
-    None,
 }
 
 pub(crate) fn read(row: &[u8]) -> Line {
@@ -126,7 +122,7 @@ fn record(row: &[u8]) -> Line {
 fn append(row: &[u8]) -> Line {
     let at = rows::after_word(row, 0, b"append ");
     let letter = rows::byte(row, at);
-    match kind_of(letter) {
+    match rows::kind_of(letter) {
         Lettered::Kind(kind) => append_date(row, rows::after(row, at, letter), kind),
         Lettered::None => Line::Unread,
     }
@@ -153,16 +149,4 @@ fn append_date(row: &[u8], at: usize, kind: Kind) -> Line {
         }
     }
     Line::Unread
-}
-
-fn kind_of(letter: u8) -> Lettered {
-    match letter {
-        b'R' => Lettered::Kind(Kind::Raw),
-        b'D' => Lettered::Kind(Kind::Date),
-        b'H' => Lettered::Kind(Kind::Hour),
-        b'U' => Lettered::Kind(Kind::Uniform),
-        b'E' => Lettered::Kind(Kind::Eu5),
-        b'V' => Lettered::Kind(Kind::Vic3),
-        _ => Lettered::None,
-    }
 }

@@ -4,17 +4,16 @@ use mathlib.Core.Bool.{Bool, true, false, cond}
 use mathlib.Core.List.{List, [], _∷_}
 use Prim.Native.Nat.{ℕ}
 use lib.Dec.{eqb}
-use Rattle.rules.specs.Refusals.{Answer, Gives, Refused}
+use Rattle.rules.specs.Refusals.{Gives, Refused, unreadableLine}
 use Rattle.rules.specs.Kinds.{Kind, kR, kD, kH, kU, kE, kV}
 use Rattle.rules.specs.Spelling.{hasIsoDate}
-use Rattle.rules.specs.Listing.{letter}
-use Rattle.replay.specs.Verdicts.{unaskedNumber}
-use Rattle.replay.specs.Asked.{oneOf, allKinds, kindNamed, ofKindNamed}
+use Rattle.rules.specs.Listing.{letter, kindOfLetter}
+use Rattle.replay.specs.Asked.{oneOf, allKinds, ofNamed}
 use Rattle.replay.proofs.Laws.{never}
 
 -- a list of kinds, asked one after the other, is asked by the kind that was found
 abbrev Found : {A : Type 0} → List Kind → (Kind → A) → A → ℕ → Type 0
-Found ks ask none b = oneOf ks ask none b ≡ ofKindNamed (oneOf ks Gives (Refused unaskedNumber) b) ask none
+Found ks ask none b = oneOf ks ask none b ≡ ofNamed (oneOf ks Gives (Refused unreadableLine) b) ask none
 
 found-first : {A : Type 0} (t : Bool) (k : Kind) (ks : List Kind) (ask : Kind → A) (none : A) (b : ℕ) → eqb b (letter k) ≡ t →
     Found ks ask none b → Found (k ∷ ks) ask none b
@@ -25,8 +24,8 @@ found : {A : Type 0} (ks : List Kind) (ask : Kind → A) (none : A) (b : ℕ) �
 found [] ask none b = refl
 found (k ∷ ks) ask none b = found-first (eqb b (letter k)) k ks ask none b refl (found ks ask none b)
 
-pub by-letter : {A : Type 0} (ask : Kind → A) (none : A) (b : ℕ) → oneOf allKinds ask none b ≡ ofKindNamed (kindNamed b) ask none
-unfolding kindNamed
+pub by-letter : {A : Type 0} (ask : Kind → A) (none : A) (b : ℕ) → oneOf allKinds ask none b ≡ ofNamed (kindOfLetter b) ask none
+unfolding kindOfLetter
 by-letter ask none b = found allKinds ask none b
 
 -- ---- the texts of a date

@@ -46,15 +46,11 @@ oneOf (k ∷ ks) ask none b = cond (eqb b (letter k)) (ask k) (oneOf ks ask none
 abbrev pub allKinds : List Kind
 allKinds = kR ∷ kD ∷ kH ∷ kU ∷ kE ∷ kV ∷ []
 
--- the kind of a letter
-unfoldable pub kindNamed : ℕ → Answer Kind
-kindNamed b = oneOf allKinds Gives (Refused unaskedNumber) b
-
 -- asks a kind, where there is one
-abbrev pub ofKindNamed : {A : Type 0} → Answer Kind → (Kind → A) → A → A
-ofKindNamed (Gives k) ask none = ask k
-ofKindNamed (Refused n) ask none = none
-ofKindNamed (RefusedAt n place) ask none = none
+abbrev pub ofNamed : {A : Type 0} → Answer Kind → (Kind → A) → A → A
+ofNamed (Gives k) ask none = ask k
+ofNamed (Refused n) ask none = none
+ofNamed (RefusedAt n place) ask none = none
 
 abbrev pub countingKinds : List Kind
 countingKinds = kD ∷ kE ∷ kV ∷ []

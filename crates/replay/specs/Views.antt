@@ -6,16 +6,12 @@ use lib.Dec.{eqb}
 use lib.IntN.{ℤ}
 use lib.ListN.{drop}
 use Rattle.rules.specs.Refusals.{Answer, Gives, Refused}
-use Rattle.rules.specs.Kinds.{Kind}
 use Rattle.rules.specs.Text.{Read}
-use Rattle.expanded.specs.Views.{kindOf}
 use Rattle.rows.specs.Views.{nowhere}
 use Rattle.replay.specs.Answers.{Told}
 use Rattle.replay.specs.Verdicts.{unaskedNumber}
 use Rattle.rows.specs.declared.Whole.{Whole}
 use Rattle.replay.specs.declared.answers.Said.{Said}
-use Rattle.replay.specs.declared.kinds.Lettered.{Lettered}
-use Rattle.replay.specs.declared.kinds.Lettered.the-variants as L
 
 -- a number answered: at NOWHERE it is none
 abbrev pub wholeAsked : Whole → Answer ℤ
@@ -26,7 +22,3 @@ told a = record { refusal = a .refusal; year = a .year; month = a .month; day = 
 
 abbrev pub toldRead : List ℕ → Said → Read Told
 toldRead s a = record { value = told a; rest = drop (a .next) s }
-
-abbrev pub lettered : Lettered → Answer Kind
-lettered (L.Kind k) = Gives (kindOf k)
-lettered L.None = Refused unaskedNumber

@@ -8,8 +8,6 @@ ghost use Rattle.rules.specs.Days.{order};
 ghost use Rattle.rules.specs.Spelling.{dotted, iso, exchange, hasIsoDate, putAnswer, putBuffer};
 ghost use Rattle.expanded.specs.Views.{kindOf, ordered};
 ghost use Rattle.formatter.specs.Views.{spelled, lengthOf};
-ghost use Rattle.replay.specs.Asked.{kindNamed};
-ghost use Rattle.replay.specs.Views.{lettered};
 use date::Date;
 use date_hour::DateHour;
 use eu5_date::Eu5Date;
@@ -20,26 +18,6 @@ use formatter::Spelled;
 use raw_date::RawDate;
 use uniform_date::UniformDate;
 use vic3_date::Vic3Date;
-
-// The kind of a letter.
-pub(crate) enum Lettered {
-    Kind(Kind),
-    None,
-}
-
-pub(crate) fn of_letter(letter: u8) -> Lettered
-    ensures { λ r. ⌜ lettered r ≡ kindNamed letter ⌝ }
-{
-    match letter {
-        b'R' => Lettered::Kind(Kind::Raw),
-        b'D' => Lettered::Kind(Kind::Date),
-        b'H' => Lettered::Kind(Kind::Hour),
-        b'U' => Lettered::Kind(Kind::Uniform),
-        b'E' => Lettered::Kind(Kind::Eu5),
-        b'V' => Lettered::Kind(Kind::Vic3),
-        _ => Lettered::None,
-    }
-}
 
 pub(crate) fn compare(kind: Kind, raw: Packed, other: Packed) -> Ordered
     ensures { λ r. ⌜ ordered r ≡ (handedIn (kindOf kind) (raw .year) (raw .word) then λ f. handedIn (kindOf kind) (other .year) (other .word) then λ g. Gives (order f g)) ⌝ }

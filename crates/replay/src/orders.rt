@@ -11,11 +11,11 @@ use crate::asked_number;
 use crate::dates;
 use crate::judge_number;
 use crate::kinds;
-use crate::kinds::Lettered;
 use crate::unasked_number;
 use expanded::Kind;
 use expanded::Made;
 use expanded::Ordered;
+use rows::Lettered;
 use rows::Whole;
 
 fn number_of(o: Ordered) -> Whole
@@ -46,7 +46,7 @@ fn of_kind(kind: Kind, f: Said, g: Said) -> Whole
 fn asked(letter: u8, f: Said, g: Said) -> Whole
     ensures { λ r. ⌜ wholeAsked r ≡ oneOf allKinds (λ k. orderAsked k (told f) (told g)) noNumberAsked letter ⌝ }
 {
-    let Lettered::Kind(kind) = kinds::of_letter(letter) else {
+    let Lettered::Kind(kind) = rows::kind_of(letter) else {
         return unasked_number();
     };
     of_kind(kind, f, g)

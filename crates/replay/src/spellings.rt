@@ -11,12 +11,12 @@ use crate::answers;
 use crate::answers::Said;
 use crate::dates;
 use crate::kinds;
-use crate::kinds::Lettered;
 use crate::words;
 use crate::words::Passed;
 use eu5_date::Eu5Date;
 use expanded::Kind;
 use expanded::Made;
+use rows::Lettered;
 
 // The place after the texts of a kind, where the date is of the kind.
 fn of_kind(kind: Kind, f: Said, row: &[u8], at: usize) -> Passed
@@ -46,7 +46,7 @@ fn of_kind(kind: Kind, f: Said, row: &[u8], at: usize) -> Passed
 fn asked(letter: u8, f: Said, row: &[u8], at: usize) -> Passed
     ensures { λ r. ⌜ passedTo (now (row .entry)) r ≡ oneOf allKinds (λ k. spellingAsked k (told f) (drop at (now (row .entry)))) noTextAsked letter ⌝ }
 {
-    let Lettered::Kind(kind) = kinds::of_letter(letter) else {
+    let Lettered::Kind(kind) = rows::kind_of(letter) else {
         return Passed::Unasked;
     };
     of_kind(kind, f, row, at)

@@ -11,12 +11,11 @@ use crate::answers;
 use crate::answers::Said;
 use crate::dates;
 use crate::judge;
-use crate::kinds;
-use crate::kinds::Lettered;
 use crate::quoted;
 use crate::unasked;
 use by_kind::Parsed;
 use expanded::Kind;
+use rows::Lettered;
 
 fn of_kind(kind: Kind, text: &[u8]) -> Said
     ensures { λ r. ⌜ told r ≡ textAsked (kindOf kind) (now (text .entry)) ⌝ }
@@ -33,7 +32,7 @@ fn of_kind(kind: Kind, text: &[u8]) -> Said
 fn asked(letter: u8, text: &[u8]) -> Said
     ensures { λ r. ⌜ told r ≡ textsAsked letter (now (text .entry)) ⌝ }
 {
-    let Lettered::Kind(kind) = kinds::of_letter(letter) else {
+    let Lettered::Kind(kind) = rows::kind_of(letter) else {
         return unasked();
     };
     of_kind(kind, text)

@@ -1,3 +1,4 @@
 pub mod LineTexts
 pub mod Requests
 pub mod Determined
+pub mod PassLaws

@@ -1,22 +1,31 @@
-// The listing of `datelist`: what each line prints, from the line alone.
+// The listing of `datelist`: what each line prints, from the line alone, and what the whole input prints.
 ghost use mathlib.Core.Path.{_≡_};
+ghost use mathlib.Core.List.{_++_};
 ghost use Prim.Native.Nat.{_≤_};
 ghost use lib.ListN.{length};
+ghost use Rattle.rules.specs.Words.{bytes};
 ghost use Rattle.rules.specs.Refusals.{Gives};
 ghost use Rattle.rules.specs.Spelling.{putAnswer, putBuffer};
-ghost use Rattle.rules.specs.Listing.{lineOutput};
+ghost use Rattle.rules.specs.Listing.{lineOutput, lineEnd, listing};
 ghost use Rattle.formatter.specs.Pieces.{placed};
 ghost use Rattle.listing.specs.Answers.{listed, lengthOf};
 use request::Asked;
 use request::Request;
 
 mod output;
+mod passes;
 
 // The length of what was written, or that the buffer is shorter than it.
 pub enum Listed {
     Length(usize),
     Short,
 }
+
+// The byte that ends a line.
+const LINE_END: u8 = 10;
+
+// The most bytes of an input that is listed.
+const INPUT_LIMIT: usize = 65535;
 
 // The refusal of a line that cannot be read.
 const UNREADABLE: u8 = 8;
@@ -33,7 +42,7 @@ fn build(s: &[u8], out: &mut [u8]) -> usize
             let answer = request::date_by(kind, way, s);
             match answer {
                 Asked::Date(date) => output::put_date(out, kind, date),
-                Asked::Refused(n) => output::put_refused(out, output::letter(kind), n),
+                Asked::Refused(n) => output::put_refused(out, codes::letter(kind), n),
             }
         }
         Request::Unreadable => output::put_refused(out, b'?', UNREADABLE),
@@ -53,4 +62,47 @@ pub fn line(s: &[u8], out: &mut [u8]) -> Listed
     }
     bytes::copy(&room[..n], out);
     Listed::Length(n)
+}
+
+// All that is printed of an input that is too long.
+fn too_long(out: &mut [u8]) -> Listed
+    ensures { λ r. ⌜ listed r ≡ putAnswer (Gives (bytes "input too long" ++ lineEnd)) (now (out .entry)) ⌝ }
+    ensures { λ _. ⌜ now (out .exit) ≡ putBuffer (Gives (bytes "input too long" ++ lineEnd)) (now (out .entry)) ⌝ }
+    ensures { λ r. ⌜ lengthOf r ≤ length (now (out .entry)) ⌝ }
+{
+    if out.len() < 15 {
+        return Listed::Short;
+    }
+    bytes::copy(b"input too long\n", out);
+    Listed::Length(15)
+}
+
+// What `datelist` prints of an input, at the front of a buffer; nothing where the buffer is shorter.
+pub fn listing(input: &[u8], out: &mut [u8]) -> Listed
+    ensures { λ r. ⌜ listed r ≡ putAnswer (Gives (listing (now (input .entry)))) (now (out .entry)) ⌝ }
+    ensures { λ _. ⌜ now (out .exit) ≡ putBuffer (Gives (listing (now (input .entry)))) (now (out .entry)) ⌝ }
+    ensures { λ r. ⌜ lengthOf r ≤ length (now (out .entry)) ⌝ }
+{
+    if INPUT_LIMIT < input.len() {
+        return too_long(out);
+    }
+    let n = passes::measure(input);
+    if out.len() < n {
+        return Listed::Short;
+    }
+    passes::put_lines(input, out);
+    Listed::Length(n)
+}
+
+// The same in a buffer that is never too short, as the program lends it: 12 bytes for each byte of the longest input.
+pub fn print(input: &[u8], out: &mut [u8]) -> usize
+    requires { ⌜ 786420 ≤ length (now out) ⌝ }
+    ensures { λ r. ⌜ (r ≡ length (listing (now (input .entry)))) × (r ≤ length (now (out .entry))) ⌝ }
+    ensures { λ _. ⌜ now (out .exit) ≡ placed (listing (now (input .entry))) (now (out .entry)) ⌝ }
+{
+    let answer = listing(input, out);
+    match answer {
+        Listed::Length(n) => n,
+        Listed::Short => 0,
+    }
 }

@@ -1,0 +1,170 @@
+-- The numbers that texts and books answer are small, so that 32 bits hold them: lengths, counts and places. Assumes nothing.
+use mathlib.Core.Path.{_≡_, refl}
+use mathlib.Core.Bool.{Bool, true, false, cond, _&&_}
+use mathlib.Core.List.{List, [], _∷_}
+use Prim.Native.Nat.{ℕ, zero, suc, _+_, _-_, _/_, _%_, _≤_, zero-le}
+use native.Mathlib.Omega.{arith}
+use borrow.Author.Tests.{ltb-true}
+use lib.Dec.{leb, ltb, eqb}
+use lib.IntN.{ℤ}
+use lib.ListN.{length, getD, take, drop}
+use Rattle.rules.specs.Words.{within, bigEndian}
+use Rattle.rules.specs.Refusals.{Answer, Gives, Refused, RefusedAt, _then_, demand, badRecord}
+use Rattle.rules.specs.Kinds.{Kind, Fields, ofKind, made, unpacked, handedIn}
+use Rattle.rules.specs.Spelling.{dotted, iso, hasIsoDate, isoDateAlone, exchange, putAnswer}
+use Rattle.rules.specs.Book.{lengthSize, headSize, kindOfCode, lengthSaid, versionOf, recordsIn, firstBad, allSound, records, check, pick, recordAt, appendAnswer, yearOfTwos, entryOf, today, entryAt, entryFor}
+use Rattle.rules.proofs.KindLaws.{high}
+use Rattle.rules.proofs.LengthLaws.{text-lengths}
+use Rattle.rules.proofs.PieceLaws.{piece-count}
+use Rattle.book.specs.Views.{inBits}
+use Rattle.pennyquill.specs.Boundary.{numberOf, placeOf}
+
+-- ---- what an answer carries
+
+-- P holds of its value; a place is at most 4,096, as is every number here
+abbrev Small : {A : Type 0} → (A → Type 0) → Answer A → Type 0
+Small P (Gives a) = P a
+Small P (Refused n) = Unit {0}
+Small P (RefusedAt n place) = place ≤ 4096
+
+abbrev Few : ℕ → Type 0
+Few n = n ≤ 4096
+
+-- nothing is said of a value
+abbrev Any : {A : Type 0} → A → Type 0
+Any a = Unit {0}
+
+small-then : {A B : Type 0} (P : A → Type 0) (Q : B → Type 0) (x : Answer A) (next : A → Answer B) →
+    Small P x → ((a : A) → P a → Small Q (next a)) → Small Q (x then next)
+small-then P Q (Gives a) next p q = q a p
+small-then P Q (Refused n) next p q = tt
+small-then P Q (RefusedAt n place) next p q = p
+
+small-demand : {A : Type 0} (P : A → Type 0) (t : Bool) (n : ℕ) (x : Answer A) → (t ≡ true → Small P x) → Small P (demand t n x)
+small-demand P true n x p = p refl
+small-demand P false n x p = tt
+
+small-cond : {A : Type 0} (P : A → Type 0) (t : Bool) (x y : Answer A) → Small P x → Small P y → Small P (cond t x y)
+small-cond P true x y p q = p
+small-cond P false x y p q = q
+
+small-number : (x : Answer ℕ) → Small Few x → numberOf x ≤ 4096
+small-number (Gives n) p = p
+small-number (Refused n) p = zero-le
+small-number (RefusedAt n place) p = p
+
+small-place : {A : Type 0} (x : Answer A) → Small Any x → placeOf x ≤ 4096
+small-place (Gives a) p = zero-le
+small-place (Refused n) p = zero-le
+small-place (RefusedAt n place) p = p
+
+-- a date handed in is of its kind, and its refusal has no place; nor has that of a code
+handed-small : (k : Kind) (year : ℤ) (word : ℕ) → Small (λ f. ofKind k f ≡ true) (handedIn k year word)
+unfolding handedIn made
+handed-small k year word =
+    small-demand (λ f. ofKind k f ≡ true) (eqb (word % 4) 0) _ _
+    (λ low. small-demand (λ f. ofKind k f ≡ true) (ofKind k (unpacked year word)) _ _ (λ p. p))
+
+code-small : (code : ℕ) → Small Any (kindOfCode code)
+unfolding kindOfCode
+code-small code =
+    let next = small-cond (Any {A = Kind}) in
+    next (eqb code 1) _ _ tt (next (eqb code 2) _ _ tt (next (eqb code 3) _ _ tt
+    (next (eqb code 4) _ _ tt (next (eqb code 5) _ _ tt (next (eqb code 6) _ _ tt tt)))))
+
+-- ---- the length of a text
+
+abbrev FewBytes : List ℕ → Type 0
+FewBytes text = length text ≤ 4096
+
+module _ (k : Kind) (year : ℤ) (word : ℕ) (buffer : List ℕ) where
+  text-small : (spell : Fields → Answer (List ℕ)) →
+      ((f : Fields) → ofKind k f ≡ true → Small FewBytes (spell f)) →
+      numberOf (putAnswer (handedIn k year word then spell) buffer) ≤ 4096
+  unfolding putAnswer
+  text-small spell each =
+      small-number (putAnswer (handedIn k year word then spell) buffer)
+      (small-then FewBytes Few (handedIn k year word then spell) _
+      (small-then (λ f. ofKind k f ≡ true) FewBytes (handedIn k year word) spell (handed-small k year word) each)
+      (λ text p. small-demand Few (leb (length text) (length buffer)) _ _ (λ fits. p)))
+
+  pub dotted-small : numberOf (putAnswer (handedIn k year word then λ f. Gives (dotted k f)) buffer) ≤ 4096
+  dotted-small = text-small (λ f. Gives (dotted k f)) (λ f p. let h = text-lengths k f p .dotted-length in omega arith)
+
+  pub iso-small : numberOf (putAnswer (handedIn k year word then λ f. Gives (iso k f)) buffer) ≤ 4096
+  iso-small = text-small (λ f. Gives (iso k f)) (λ f p. let h = text-lengths k f p .iso-length in omega arith)
+
+  pub exchange-small : numberOf (putAnswer (handedIn k year word then λ f. Gives (exchange k f)) buffer) ≤ 4096
+  exchange-small = text-small (λ f. Gives (exchange k f)) (λ f p. let h = text-lengths k f p .exchange-length in omega arith)
+
+  pub iso-date-small : numberOf (putAnswer (handedIn k year word then λ f. isoDateAlone k f) buffer) ≤ 4096
+  unfolding isoDateAlone
+  iso-date-small =
+      text-small (λ f. isoDateAlone k f)
+      (λ f p. small-demand FewBytes (hasIsoDate k) _ _ (λ has. let h = text-lengths k f p .date-length in omega arith))
+
+-- ---- the count of a book's records, and their places
+
+-- at most as many records as a book has at most
+abbrev FewRecords : List (List ℕ) → Type 0
+FewRecords rs = length rs ≤ 4096
+
+sound-small : (rs : List (List ℕ)) → FewRecords rs → Small FewRecords (allSound today rs)
+unfolding allSound
+sound-small rs few = inner (ltb (firstBad (today .sound) rs) (length rs)) refl
+  where
+    inner : (t : Bool) → ltb (firstBad (today .sound) rs) (length rs) ≡ t →
+        Small FewRecords (cond t (RefusedAt badRecord (firstBad (today .sound) rs)) (Gives rs))
+    inner true p = let h = ltb-true (firstBad (today .sound) rs) (length rs) p in omega arith
+    inner false p = few
+
+module _ (s : List ℕ) where
+  records-small : Small FewRecords (records today s)
+  unfolding records recordsIn
+  records-small =
+      let next = small-demand FewRecords in
+      next (leb headSize (length s)) _ _ (λ head.
+      next (within 1 20481 (lengthSaid s)) _ _ (λ said.
+      next (leb (lengthSaid s + lengthSize) (length s)) _ _ (λ fits.
+      next (eqb (versionOf s) 1) _ _ (λ version.
+      next (eqb ((lengthSaid s - 1) % 5) 0) _ _ (λ even.
+      sound-small (recordsIn today s)
+      (let n = piece-count ((lengthSaid s - 1) / 5) 5 (drop 5 s) in let most = high 1 20481 (lengthSaid s) said in omega arith))))))
+
+  pub check-small : numberOf (check today s) ≤ 4096
+  unfolding check
+  check-small =
+      small-number (check today s) (small-then FewRecords Few (records today s) _ records-small (λ rs few. few))
+
+  pub append-small : (code : ℕ) (year : ℤ) (word : ℕ) → numberOf (appendAnswer today (entryFor code year word) s) ≤ 4096
+  unfolding appendAnswer entryFor
+  append-small code year word =
+      small-number (appendAnswer today (entryFor code year word) s)
+      (small-then Any Few (entryFor code year word) _
+      (small-then Any Any (kindOfCode code) _ (code-small code)
+      (λ k any. small-then (λ f. ofKind k f ≡ true) Any (handedIn k year word) _ (handed-small k year word) (λ f p. tt)))
+      (λ r any. small-then FewRecords Few (records today s) _ records-small
+      (λ rs few. small-demand Few (ltb (length rs) 4096 && leb (lengthSaid s + lengthSize + 5) (length s)) _ _ (λ room. few))))
+
+  pick-small : (rs : List (List ℕ)) (place : ℕ) → Small Any (pick rs place)
+  unfolding pick
+  pick-small [] place = tt
+  pick-small (r ∷ rs) zero = tt
+  pick-small (r ∷ rs) (suc place) = pick-small rs place
+
+  entry-small : (r : List ℕ) → Small Any (entryOf r)
+  unfolding entryOf
+  entry-small r =
+      let year = yearOfTwos (bigEndian (take 2 (drop 1 r))) in
+      let word = bigEndian (take 2 (drop 3 r)) in
+      small-then Any Any (kindOfCode (getD r 0 0)) _ (code-small (getD r 0 0))
+      (λ k any. small-then (λ f. ofKind k f ≡ true) Any (handedIn k year word) _ (handed-small k year word) (λ f p. tt))
+
+  pub record-small : (place : ℕ) → placeOf (inBits (entryAt s place)) ≤ 4096
+  unfolding entryAt recordAt
+  record-small place =
+      small-place (inBits (entryAt s place))
+      (small-then Any Any (entryAt s place) _
+      (small-then Any Any (recordAt today s place) _
+      (small-then FewRecords Any (records today s) _ records-small (λ rs few. pick-small rs place)) (λ r any. entry-small r))
+      (λ e any. tt))

@@ -1,0 +1,88 @@
+-- What crosses to C: a kind and a date as numbers, and an answer as a struct, every member of it. Assumes nothing.
+use Prim.Native.Nat.{ℕ, _+_, _*_, _/_, _%_}
+use lib.IntN.{ℤ, pos}
+use Rattle.rules.specs.Words.{minus}
+use Rattle.rules.specs.Refusals.{Answer, Gives, Refused, RefusedAt, _then_, notOfKind}
+use Rattle.rules.specs.Kinds.{Kind, Fields, Stored, store, handedIn}
+use Rattle.rules.specs.Days.{Order, Before, Same, After}
+use Rattle.rules.specs.Book.{kindCode, kindOfCode, twosComplement, yearOfTwos}
+use Rattle.book.specs.Views.{Bits}
+use Rattle.pennyquill.specs.declared.PqAnswer.{PqAnswer}
+use Rattle.pennyquill.specs.declared.PqNumber.{PqNumber}
+use Rattle.pennyquill.specs.declared.PqRecord.{PqRecord}
+
+-- ---- into the library
+
+-- "(uint32_t)(uint16_t)year << 16 | packed word": a date as one number, and its year and its word back
+abbrev pub dateNumber : Stored → ℕ
+dateNumber d = twosComplement (d .year) * 65536 + d .word
+
+abbrev pub yearIn : ℕ → ℤ
+yearIn date = yearOfTwos (date / 65536)
+
+abbrev pub wordIn : ℕ → ℕ
+wordIn date = date % 65536
+
+-- a date handed in as one number, or 4
+abbrev pub dateIn : Kind → ℕ → Answer Fields
+dateIn k date = handedIn k (yearIn date) (wordIn date)
+
+-- what is answered of a kind by its code, or 4
+abbrev pub ofKindGiven : {A : Type 0} → ℕ → (Kind → Answer A) → Answer A
+ofKindGiven kind next = kindOfCode kind then next
+
+-- what is answered of a date of such a kind, or 4
+abbrev pub ofDateGiven : {A : Type 0} → ℕ → ℕ → (Kind → Fields → Answer A) → Answer A
+ofDateGiven kind date next = ofKindGiven kind (λ k. dateIn k date then next k)
+
+-- and of two dates of it
+abbrev pub ofDatesGiven : {A : Type 0} → ℕ → ℕ → ℕ → (Kind → Fields → Fields → Answer A) → Answer A
+ofDatesGiven kind first second next = ofDateGiven kind first (λ k f. dateIn k second then next k f)
+
+-- ---- out of it
+
+-- "refusal 0 means that value holds the answer; at 11 value is the place"; "On a refusal other than 11 the other members are 0"
+abbrev pub crossed : Answer ℕ → PqAnswer
+crossed (Gives value) = record { refusal = 0; value = value }
+crossed (Refused n) = record { refusal = n; value = 0 }
+crossed (RefusedAt n place) = record { refusal = n; value = place }
+
+-- a date, as it is stored and by its fields
+abbrev pub bitsCrossed : Answer Stored → PqAnswer
+bitsCrossed a = crossed (a then λ d. Gives (dateNumber d))
+
+abbrev pub dateCrossed : Answer Fields → PqAnswer
+dateCrossed a = bitsCrossed (store a)
+
+-- a signed number; no refusal of those that answer one has a place
+abbrev pub numberCrossed : Answer ℤ → PqNumber
+numberCrossed (Gives value) = record { refusal = 0; value = value }
+numberCrossed (Refused n) = record { refusal = n; value = pos 0 }
+numberCrossed (RefusedAt n place) = record { refusal = n; value = pos place }
+
+-- "-1, 0, 1"
+abbrev pub orderNumber : Order → ℤ
+orderNumber Before = minus 1
+orderNumber Same = pos 0
+orderNumber After = pos 1
+
+abbrev pub orderCrossed : Answer Order → PqNumber
+orderCrossed a = numberCrossed (a then λ o. Gives (orderNumber o))
+
+-- "refusal, kind, value (the date; at 11 the place), field (0 today)"
+abbrev pub recordCrossed : Answer Bits → PqRecord
+recordCrossed (Gives e) = record { refusal = 0; kind = kindCode (e .kind); value = dateNumber (e .date); field = 0 }
+recordCrossed (Refused n) = record { refusal = n; kind = 0; value = 0; field = 0 }
+recordCrossed (RefusedAt n place) = record { refusal = n; kind = 0; value = place; field = 0 }
+
+-- ---- for the code's casts: the number that an answer carries, and the place that a refusal does
+
+abbrev pub numberOf : Answer ℕ → ℕ
+numberOf (Gives n) = n
+numberOf (Refused n) = 0
+numberOf (RefusedAt n place) = place
+
+abbrev pub placeOf : {A : Type 0} → Answer A → ℕ
+placeOf (Gives a) = 0
+placeOf (Refused n) = 0
+placeOf (RefusedAt n place) = place

@@ -1,0 +1,136 @@
+// A book of dates in a buffer that the caller lends.
+ghost use mathlib.Core.Path.{_≡_};
+ghost use Prim.Native.Nat.{_≤_};
+ghost use Rattle.rules.specs.Book.{check, appendAnswer, appendBuffer, newAnswer, newBuffer, today, entryAt, entryFor};
+ghost use Rattle.rules.specs.Refusals.{RefusedAt, badRecord};
+ghost use Rattle.book.specs.Views.{inBits, checkedAs, foundAs, appendedAs, startedAs};
+ghost use Rattle.pennyquill.specs.Boundary.{yearIn, wordIn, crossed, recordCrossed, numberOf, placeOf};
+use crate::PqAnswer;
+use crate::PqRecord;
+use crate::crossing;
+use book::Appended;
+use book::Checked;
+use book::Found;
+use book::Started;
+use codes::Coded;
+
+const BAD_LENGTH: u32 = 9;
+
+const BAD_VERSION: u32 = 10;
+
+const BAD_RECORD: u32 = 11;
+
+const NO_ROOM: u32 = 12;
+
+const NO_RECORD: u32 = 13;
+
+// ---- answers
+
+fn bad_record(place: usize) -> PqAnswer
+    requires { ⌜ place ≤ 4096 ⌝ }
+    ensures { λ r. ⌜ r ≡ crossed (RefusedAt badRecord place) ⌝ }
+{
+    PqAnswer {
+        refusal: BAD_RECORD,
+        value: place as u32,
+    }
+}
+
+fn start_crossed(started: Started) -> PqAnswer
+    ensures { λ r. ⌜ r ≡ crossed (startedAs started) ⌝ }
+{
+    match started {
+        Started::Written => crossing::gives(0),
+        Started::NoRoom => crossing::refused(NO_ROOM),
+    }
+}
+
+fn count_crossed(checked: Checked) -> PqAnswer
+    requires { ⌜ numberOf (checkedAs checked) ≤ 4096 ⌝ }
+    ensures { λ r. ⌜ r ≡ crossed (checkedAs checked) ⌝ }
+{
+    match checked {
+        Checked::Records(n) => crossing::gives(n as u32),
+        Checked::BadLength => crossing::refused(BAD_LENGTH),
+        Checked::BadVersion => crossing::refused(BAD_VERSION),
+        Checked::BadRecord(place) => bad_record(place),
+    }
+}
+
+fn place_crossed(appended: Appended) -> PqAnswer
+    requires { ⌜ numberOf (appendedAs appended) ≤ 4096 ⌝ }
+    ensures { λ r. ⌜ r ≡ crossed (appendedAs appended) ⌝ }
+{
+    match appended {
+        Appended::At(n) => crossing::gives(n as u32),
+        Appended::NotOfKind => crossing::not_of_kind(),
+        Appended::BadLength => crossing::refused(BAD_LENGTH),
+        Appended::BadVersion => crossing::refused(BAD_VERSION),
+        Appended::BadRecord(place) => bad_record(place),
+        Appended::NoRoom => crossing::refused(NO_ROOM),
+    }
+}
+
+fn no_record(n: u32, place: u32) -> PqRecord
+    ensures { λ r. ⌜ r ≡ recordCrossed (RefusedAt n place) ⌝ }
+{
+    PqRecord {
+        refusal: n,
+        kind: 0,
+        value: place,
+        field: 0,
+    }
+}
+
+fn record_crossed(found: Found) -> PqRecord
+    requires { ⌜ placeOf (foundAs found) ≤ 4096 ⌝ }
+    ensures { λ r. ⌜ r ≡ recordCrossed (foundAs found) ⌝ }
+{
+    match found {
+        Found::Record { kind, date } => PqRecord {
+            refusal: 0,
+            kind: codes::kind_code(kind) as u32,
+            value: crossing::date_number(date),
+            field: 0,
+        },
+        Found::BadLength => no_record(BAD_LENGTH, 0),
+        Found::BadVersion => no_record(BAD_VERSION, 0),
+        Found::BadRecord(place) => no_record(BAD_RECORD, place as u32),
+        Found::NoRecord => no_record(NO_RECORD, 0),
+    }
+}
+
+// ---- the operations
+
+#[no_mangle]
+pub extern "C" fn pq_book_new(book: &mut [u8]) -> PqAnswer
+    ensures { λ r. ⌜ r ≡ crossed (newAnswer (now (book .entry))) ⌝ }
+    ensures { λ _. ⌜ now (book .exit) ≡ newBuffer today (now (book .entry)) ⌝ }
+{
+    start_crossed(book::new(book))
+}
+
+#[no_mangle]
+pub extern "C" fn pq_book_check(book: &[u8]) -> PqAnswer
+    ensures { λ r. ⌜ r ≡ crossed (check today (now (book .entry))) ⌝ }
+{
+    count_crossed(book::check(book))
+}
+
+#[no_mangle]
+pub extern "C" fn pq_book_append(book: &mut [u8], kind: u32, date: u32) -> PqAnswer
+    ensures { λ r. ⌜ r ≡ crossed (appendAnswer today (entryFor kind (yearIn date) (wordIn date)) (now (book .entry))) ⌝ }
+    ensures { λ _. ⌜ now (book .exit) ≡ appendBuffer today (entryFor kind (yearIn date) (wordIn date)) (now (book .entry)) ⌝ }
+{
+    let Coded::Kind(kind) = codes::kind_of_code(kind) else {
+        return crossing::not_of_kind();
+    };
+    place_crossed(book::append(book, kind, crossing::date_in(date)))
+}
+
+#[no_mangle]
+pub extern "C" fn pq_book_record(book: &[u8], place: usize) -> PqRecord
+    ensures { λ r. ⌜ r ≡ recordCrossed (inBits (entryAt (now (book .entry)) place)) ⌝ }
+{
+    record_crossed(book::record_at(book, place))
+}

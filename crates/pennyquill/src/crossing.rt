@@ -1,0 +1,73 @@
+// A date as the number that crosses, and the answers that have no value.
+ghost use mathlib.Core.Path.{_≡_};
+ghost use Rattle.rules.specs.Refusals.{Gives, Refused, notOfKind};
+ghost use Rattle.expanded.specs.Views.{bitsOf};
+ghost use Rattle.pennyquill.specs.Boundary.{dateNumber, yearIn, wordIn, crossed, numberCrossed};
+use crate::PqAnswer;
+use crate::PqNumber;
+use expanded::Packed;
+
+// Refusal 4: the kind, or what is handed in as a date of it.
+const NOT_OF_KIND: u32 = 4;
+
+// The bits of a date, from its number; any number has some.
+pub fn date_in(date: u32) -> Packed
+    ensures { λ r. ⌜ (r .year ≡ yearIn date) × (r .word ≡ wordIn date) ⌝ }
+{
+    let year = codes::year_of_twos((date / 65536) as u16);
+    let word = (date % 65536) as u16;
+    Packed { year, word }
+}
+
+// The number of a date, from its bits.
+pub fn date_number(date: Packed) -> u32
+    ensures { λ r. ⌜ r ≡ dateNumber (bitsOf date) ⌝ }
+{
+    let year = codes::twos_complement(date.year) as u32;
+    let word = date.word as u32;
+    year * 65536 + word
+}
+
+// ---- answers
+
+pub fn gives(value: u32) -> PqAnswer
+    ensures { λ r. ⌜ r ≡ crossed (Gives value) ⌝ }
+{
+    PqAnswer { refusal: 0, value }
+}
+
+pub fn gives_date(date: Packed) -> PqAnswer
+    ensures { λ r. ⌜ r ≡ crossed (Gives (dateNumber (bitsOf date))) ⌝ }
+{
+    gives(date_number(date))
+}
+
+pub fn refused(n: u32) -> PqAnswer
+    ensures { λ r. ⌜ r ≡ crossed (Refused n) ⌝ }
+{
+    PqAnswer {
+        refusal: n,
+        value: 0,
+    }
+}
+
+pub fn not_of_kind() -> PqAnswer
+    ensures { λ r. ⌜ r ≡ crossed (Refused notOfKind) ⌝ }
+{
+    refused(NOT_OF_KIND)
+}
+
+pub fn gives_number(value: i32) -> PqNumber
+    ensures { λ r. ⌜ r ≡ numberCrossed (Gives value) ⌝ }
+{
+    PqNumber { refusal: 0, value }
+}
+
+pub fn no_number() -> PqNumber
+    ensures { λ r. ⌜ r ≡ numberCrossed (Refused notOfKind) ⌝ }
+{
+    PqNumber {
+        refusal: NOT_OF_KIND,
+        value: 0,
+    }
+}

@@ -1,0 +1,125 @@
+// A date moved by days and its start of day; its number, the days between two dates, and their order.
+ghost use mathlib.Core.Path.{_≡_};
+ghost use Rattle.rules.specs.Refusals.{Gives};
+ghost use Rattle.rules.specs.Days.{difference, addDays, startOfDay, order};
+ghost use Rattle.rules.specs.Numbers.{writeNumber};
+ghost use Rattle.expanded.specs.Views.{ordered};
+ghost use Rattle.number.specs.Views.{writtenAs};
+ghost use Rattle.day_count.specs.Views.{summedAs, counted, started};
+ghost use Rattle.pennyquill.specs.Boundary.{ofDateGiven, ofDatesGiven, bitsCrossed, dateCrossed, numberCrossed, orderCrossed};
+use crate::PqAnswer;
+use crate::PqNumber;
+use crate::crossing;
+use codes::Coded;
+use day_count::Days;
+use day_count::Start;
+use day_count::Sum;
+use expanded::Ordered;
+use number::Written;
+
+const SUM_OVERFLOWS: u32 = 5;
+
+const OUT_OF_RANGE: u32 = 6;
+
+// ---- dates
+
+fn sum_crossed(sum: Sum) -> PqAnswer
+    ensures { λ r. ⌜ r ≡ bitsCrossed (summedAs sum) ⌝ }
+{
+    match sum {
+        Sum::Date(date) => crossing::gives_date(date),
+        Sum::NotOfKind => crossing::not_of_kind(),
+        Sum::Overflow => crossing::refused(SUM_OVERFLOWS),
+        Sum::OutOfRange => crossing::refused(OUT_OF_RANGE),
+    }
+}
+
+fn start_crossed(start: Start) -> PqAnswer
+    ensures { λ r. ⌜ r ≡ bitsCrossed (started start) ⌝ }
+{
+    match start {
+        Start::Date(date) => crossing::gives_date(date),
+        Start::NotOfKind => crossing::not_of_kind(),
+    }
+}
+
+#[no_mangle]
+pub extern "C" fn pq_add_days(kind: u32, date: u32, days: i32) -> PqAnswer
+    ensures { λ r. ⌜ r ≡ dateCrossed (ofDateGiven kind date (λ k f. addDays k f days)) ⌝ }
+{
+    let Coded::Kind(kind) = codes::kind_of_code(kind) else {
+        return crossing::not_of_kind();
+    };
+    sum_crossed(day_count::add_days(kind, crossing::date_in(date), days))
+}
+
+#[no_mangle]
+pub extern "C" fn pq_start_of_day(kind: u32, date: u32) -> PqAnswer
+    ensures { λ r. ⌜ r ≡ dateCrossed (ofDateGiven kind date (λ k f. startOfDay k f)) ⌝ }
+{
+    let Coded::Kind(kind) = codes::kind_of_code(kind) else {
+        return crossing::not_of_kind();
+    };
+    start_crossed(day_count::start_of_day(kind, crossing::date_in(date)))
+}
+
+// ---- numbers
+
+fn written_crossed(written: Written) -> PqNumber
+    ensures { λ r. ⌜ r ≡ numberCrossed (writtenAs written) ⌝ }
+{
+    match written {
+        Written::Number(n) => crossing::gives_number(n),
+        Written::NotOfKind => crossing::no_number(),
+    }
+}
+
+fn days_crossed(days: Days) -> PqNumber
+    ensures { λ r. ⌜ r ≡ numberCrossed (counted days) ⌝ }
+{
+    match days {
+        Days::Days(n) => crossing::gives_number(n),
+        Days::NotOfKind => crossing::no_number(),
+    }
+}
+
+fn order_crossed(order: Ordered) -> PqNumber
+    ensures { λ r. ⌜ r ≡ orderCrossed (ordered order) ⌝ }
+{
+    match order {
+        Ordered::Before => crossing::gives_number(-1),
+        Ordered::Same => crossing::gives_number(0),
+        Ordered::After => crossing::gives_number(1),
+        Ordered::NotOfKind => crossing::no_number(),
+    }
+}
+
+#[no_mangle]
+pub extern "C" fn pq_to_number(kind: u32, date: u32) -> PqNumber
+    ensures { λ r. ⌜ r ≡ numberCrossed (ofDateGiven kind date (λ k f. writeNumber k f)) ⌝ }
+{
+    let Coded::Kind(kind) = codes::kind_of_code(kind) else {
+        return crossing::no_number();
+    };
+    written_crossed(number::to_binary(kind, crossing::date_in(date)))
+}
+
+#[no_mangle]
+pub extern "C" fn pq_days_until(kind: u32, first: u32, second: u32) -> PqNumber
+    ensures { λ r. ⌜ r ≡ numberCrossed (ofDatesGiven kind first second (λ k f g. difference k f g)) ⌝ }
+{
+    let Coded::Kind(kind) = codes::kind_of_code(kind) else {
+        return crossing::no_number();
+    };
+    days_crossed(day_count::days_until(kind, crossing::date_in(first), crossing::date_in(second)))
+}
+
+#[no_mangle]
+pub extern "C" fn pq_order(kind: u32, first: u32, second: u32) -> PqNumber
+    ensures { λ r. ⌜ r ≡ orderCrossed (ofDatesGiven kind first second (λ k f g. Gives (order f g))) ⌝ }
+{
+    let Coded::Kind(kind) = codes::kind_of_code(kind) else {
+        return crossing::no_number();
+    };
+    order_crossed(expanded::compare(kind, crossing::date_in(first), crossing::date_in(second)))
+}

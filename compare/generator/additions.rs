@@ -1,4 +1,4 @@
-//! additions.txt: `K DATE DAYS DATE`, or `refused 5` or `refused 6` for the second date.
+//! additions.txt: `K a DATE DAYS DATE`, or `refused 5` or `refused 6` for the second date.
 
 use crate::answers::Answers;
 use crate::dates::{any_date, landmarks};
@@ -89,7 +89,7 @@ fn row<K: Counted>(date: K, days: i32) -> String {
         Ok(sum) => sum.fields().to_string(),
         Err(message) => format!("refused {}", refusal(&message)),
     };
-    format!("{} {} {days} {answer}", K::LETTER, date.fields())
+    format!("{} a {} {days} {answer}", K::LETTER, date.fields())
 }
 
 fn refusal(message: &str) -> u8 {

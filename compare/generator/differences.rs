@@ -1,4 +1,4 @@
-//! differences.txt: `K DATE DATE N`, the days from the first date to the second.
+//! differences.txt: `K d DATE DATE N`, the days from the first date to the second.
 
 use crate::answers::Answers;
 use crate::dates::{any_date, landmarks};
@@ -26,5 +26,5 @@ fn ask_kind<K: Counted>(answers: &mut Answers) {
 
 fn row<K: Counted>(from: K, to: K) -> String {
     let days = from.until(to);
-    format!("{} {} {} {days}", K::LETTER, from.fields(), to.fields())
+    format!("{} d {} {} {days}", K::LETTER, from.fields(), to.fields())
 }

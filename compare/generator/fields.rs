@@ -1,4 +1,4 @@
-//! fields.txt: `K YEAR MONTH DAY HOUR DATE`, or `refused 4` for the date.
+//! fields.txt: `K f YEAR MONTH DAY HOUR DATE`, or `refused 4` for the date.
 
 use crate::answers::{Answers, date_or_refused};
 use crate::dates::{YEARS, any_date};
@@ -66,7 +66,7 @@ fn some_fields<K: Kind>(random: &mut Random) -> Fields {
 
 fn row<K: Kind>(fields: Fields) -> String {
     let answer = date_or_refused(make::<K>(fields), 4);
-    format!("{} {fields} {answer}", K::LETTER)
+    format!("{} f {fields} {answer}", K::LETTER)
 }
 
 /// The kind's constructor, which panics for E at day 32 or more.

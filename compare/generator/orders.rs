@@ -1,4 +1,4 @@
-//! orders.txt: `K DATE DATE N`, N being -1, 0 or 1 where the first is less, equal or greater.
+//! orders.txt: `K o DATE DATE N`, N being -1, 0 or 1 where the first is less, equal or greater.
 
 use crate::answers::Answers;
 use crate::dates::any_date;
@@ -62,5 +62,5 @@ fn near<K: Kind>(random: &mut Random, one: K) -> K {
 
 fn row<K: Kind>(one: K, other: K) -> String {
     let order = one.cmp(&other) as i8;
-    format!("{} {} {} {order}", K::LETTER, one.fields(), other.fields())
+    format!("{} o {} {} {order}", K::LETTER, one.fields(), other.fields())
 }

@@ -1,5 +1,5 @@
 //! What a date is written as.
-//! spellings.txt: `K DATE DOTTED ISO`, for E also the ISO date alone. binaries.txt: `K DATE N`.
+//! spellings.txt: `K s DATE DOTTED ISO`, for E also the ISO date alone. binaries.txt: `K n DATE N`.
 
 use crate::answers::Answers;
 use crate::dates::{any_date, edge_dates};
@@ -38,7 +38,7 @@ fn ask_numbers<K: Written>(answers: &mut Answers) {
 
 fn text_row<K: Kind>(date: K) -> String {
     let (dotted, iso) = (date.game_fmt(), date.iso_8601());
-    let row = format!("{} {} {dotted} {iso}", K::LETTER, date.fields());
+    let row = format!("{} s {} {dotted} {iso}", K::LETTER, date.fields());
     match date.third_text() {
         Some(text) => format!("{row} {text}"),
         None => row,
@@ -46,5 +46,5 @@ fn text_row<K: Kind>(date: K) -> String {
 }
 
 fn number_row<K: Written>(date: K) -> String {
-    format!("{} {} {}", K::LETTER, date.fields(), date.number())
+    format!("{} n {} {}", K::LETTER, date.fields(), date.number())
 }

@@ -1,4 +1,4 @@
-//! texts.txt: `K "TEXT" DATE`, or `refused 2` for the date.
+//! texts.txt: `K t "TEXT" DATE`, or `refused 2` for the date.
 
 use crate::answers::{Answers, date_or_refused, quoted};
 use crate::dates::any_date;
@@ -24,7 +24,7 @@ fn ask_kind<K: Kind>(answers: &mut Answers) {
 
 fn row<K: Kind>(text: &[u8]) -> String {
     let answer = date_or_refused(K::read(text), 2);
-    format!("{} {} {answer}", K::LETTER, quoted(text))
+    format!("{} t {} {answer}", K::LETTER, quoted(text))
 }
 
 /// Mostly a date of the kind, spelled in one of the ways that the readers take.

@@ -1,6 +1,6 @@
 //! The exchange text: "Date to text" of document 01.
 //!
-//! Rows of spellings.txt, `K DATE DOTTED ISO ...`, become rows `K DATE EXCHANGE`. The ISO text in
+//! Rows of spellings.txt, `K s DATE DOTTED ISO ...`, become rows `K x DATE EXCHANGE`. The ISO text in
 //! the row is the original's; it is held against this reading, which spells both texts alike but
 //! for the year.
 
@@ -14,7 +14,7 @@ pub fn rows(spellings: &str) -> String {
 }
 
 fn row(spelling: &str) -> String {
-    let [letter, year, month, day, hour, _dotted, iso, ..] =
+    let [letter, "s", year, month, day, hour, _dotted, iso, ..] =
         spelling.split(' ').collect::<Vec<_>>()[..]
     else {
         panic!("no row of spellings.txt: {spelling}");
@@ -27,7 +27,7 @@ fn row(spelling: &str) -> String {
         hour: hour.parse().expect("an hour"),
     };
     assert_eq!(iso_text(kind, date), iso, "the original's ISO text");
-    format!("{letter} {date} {}", exchange_text(kind, date))
+    format!("{letter} x {date} {}", exchange_text(kind, date))
 }
 
 /// "year zero-filled to width 4, the sign counted (-5 is `-005`)".

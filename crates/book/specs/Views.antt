@@ -16,8 +16,6 @@ use Rattle.book.specs.declared.Appended.{Appended}
 use Rattle.book.specs.declared.Appended.the-variants as A
 use Rattle.book.specs.declared.Started.{Started}
 use Rattle.book.specs.declared.Started.the-variants as N
-use Rattle.book.specs.declared.slots.Coded.{Coded}
-use Rattle.book.specs.declared.slots.Coded.the-variants as D
 use Rattle.book.specs.declared.slots.Slot.{Slot}
 use Rattle.book.specs.declared.slots.Slot.the-variants as S
 
@@ -32,10 +30,6 @@ inBits a = a then λ e. Gives (record { kind = e .kind; date = K.stored (e .date
 -- the five bytes of a date's record, from its bits
 abbrev pub bytesOf : Kind → Packed → List ℕ
 bytesOf k d = B.kindCode (kindOf k) ∷ bigBytes 2 (B.twosComplement (d .year)) ++ bigBytes 2 (d .word)
-
-abbrev pub coded : Coded → Answer K.Kind
-coded (D.Kind k) = Gives (kindOf k)
-coded D.None = Refused notOfKind
 
 abbrev pub slotAs : Slot → Answer Bits
 slotAs (S.Record k d) = Gives (record { kind = kindOf k; date = bitsOf d })

@@ -4,73 +4,17 @@ ghost use mathlib.Core.List.{[], _∷_};
 ghost use Prim.Native.Nat.{_+_, _*_, _≤_};
 ghost use lib.ListN.{length, take, drop};
 ghost use lib.Seq.{sets};
-ghost use Rattle.rules.specs.Book.{kindCode, kindOfCode, twosComplement, yearOfTwos, entryOf, today};
-ghost use Rattle.expanded.specs.Views.{kindOf};
-ghost use Rattle.book.specs.Views.{bytesOf, coded, slotAs, inBits};
+ghost use Rattle.rules.specs.Book.{entryOf, today};
+ghost use Rattle.book.specs.Views.{bytesOf, slotAs, inBits};
+use codes::Coded;
 use expanded::Kind;
 use expanded::Packed;
-
-// A kind by its code.
-enum Coded {
-    Kind(Kind),
-    None,
-}
 
 // What five bytes are: a record of a date, or none.
 pub enum Slot {
     Record { kind: Kind, date: Packed },
     None,
 }
-
-// ---- a kind and its code, a year and its two's complement
-
-fn kind_code(kind: Kind) -> u8
-    ensures { λ r. ⌜ r ≡ kindCode (kindOf kind) ⌝ }
-{
-    match kind {
-        Kind::Raw => 1,
-        Kind::Date => 2,
-        Kind::Hour => 3,
-        Kind::Uniform => 4,
-        Kind::Eu5 => 5,
-        Kind::Vic3 => 6,
-    }
-}
-
-fn kind_of_code(code: u8) -> Coded
-    ensures { λ r. ⌜ coded r ≡ kindOfCode code ⌝ }
-{
-    match code {
-        1 => Coded::Kind(Kind::Raw),
-        2 => Coded::Kind(Kind::Date),
-        3 => Coded::Kind(Kind::Hour),
-        4 => Coded::Kind(Kind::Uniform),
-        5 => Coded::Kind(Kind::Eu5),
-        6 => Coded::Kind(Kind::Vic3),
-        _ => Coded::None,
-    }
-}
-
-fn twos_complement(year: i16) -> u16
-    ensures { λ r. ⌜ r ≡ twosComplement year ⌝ }
-{
-    let halves = sign::halves16(year);
-    if 0 < halves.dn {
-        return (65536 - halves.dn) as u16;
-    }
-    halves.up as u16
-}
-
-fn year_of_twos(twos: u16) -> i16
-    ensures { λ r. ⌜ r ≡ yearOfTwos twos ⌝ }
-{
-    if twos < 32768 {
-        return sign::int16(twos as u64, 0);
-    }
-    sign::int16(twos as u64, 65536)
-}
-
-// ---- one record
 
 fn join2(high: u8, low: u8) -> u16
     ensures { λ r. ⌜ r ≡ high * 256 + low ⌝ }
@@ -81,10 +25,10 @@ fn join2(high: u8, low: u8) -> u16
 fn slot_of(code: u8, y1: u8, y0: u8, w1: u8, w0: u8) -> Slot
     ensures { λ r. ⌜ slotAs r ≡ inBits (entryOf (code ∷ y1 ∷ y0 ∷ w1 ∷ w0 ∷ [])) ⌝ }
 {
-    let coded = kind_of_code(code);
+    let coded = codes::kind_of_code(code as u32);
     match coded {
         Coded::Kind(kind) => {
-            let year = year_of_twos(join2(y1, y0));
+            let year = codes::year_of_twos(join2(y1, y0));
             let word = join2(w1, w0);
             let date = Packed { year, word };
             if expanded::is_of_kind(kind, date) {
@@ -120,8 +64,8 @@ pub fn put_entry(b: &mut [u8], at: usize, kind: Kind, date: Packed)
     requires { ⌜ at + 5 ≤ length (now b) ⌝ }
     ensures { λ _. ⌜ now (b .exit) ≡ sets (now (b .entry)) at (bytesOf kind date) ⌝ }
 {
-    let code = kind_code(kind);
-    let year = twos_complement(date.year);
+    let code = codes::kind_code(kind);
+    let year = codes::twos_complement(date.year);
     let word = date.word;
     b[at] = code;
     b[at + 1] = (year / 256) as u8;

@@ -177,6 +177,34 @@ fn passes_guess(kind: Kind, year: i16, month: u8, day: u8, hour: u8) -> bool
     }
 }
 
+// U reads no number outside text.
+pub fn reads_numbers(kind: Kind) -> bool
+    ensures { λ r. ⌜ r ≡ readsNumbers (kindOf kind) ⌝ }
+{
+    match kind {
+        Kind::Raw => true,
+        Kind::Date => true,
+        Kind::Hour => true,
+        Kind::Uniform => false,
+        Kind::Eu5 => true,
+        Kind::Vic3 => true,
+    }
+}
+
+// R and U have no guess.
+pub fn has_guess(kind: Kind) -> bool
+    ensures { λ r. ⌜ r ≡ guesses (kindOf kind) ⌝ }
+{
+    match kind {
+        Kind::Raw => false,
+        Kind::Date => true,
+        Kind::Hour => true,
+        Kind::Uniform => false,
+        Kind::Eu5 => true,
+        Kind::Vic3 => true,
+    }
+}
+
 // The full decoder: for a field that is declared as a date. U has none.
 pub fn from_binary(kind: Kind, s: i32) -> Read
     requires { ⌜ readsNumbers (kindOf kind) ≡ true ⌝ }

@@ -14,8 +14,9 @@ use Rattle.rules.proofs.KindLaws.{fit}
 use Rattle.rules.proofs.OrderLaws.{day-small, hour-small}
 use Rattle.rules.proofs.PackLaws.{handed-back, word-fits}
 use Rattle.rules.proofs.EntryLaws.{code-back, twos-fit, year-back}
-use Rattle.pennyquill.specs.declared.crossing.Coded.{Coded}
-use Rattle.pennyquill.specs.Boundary.{dateNumber, dateIn, coded}
+use Rattle.codes.specs.declared.Coded.{Coded}
+use Rattle.codes.specs.Views.{coded}
+use Rattle.pennyquill.specs.Boundary.{dateNumber, dateIn}
 
 -- ---- fields
 

@@ -7,9 +7,6 @@ use Rattle.rules.specs.Kinds.{Kind, Fields, Stored, store, handedIn}
 use Rattle.rules.specs.Days.{Order, Before, Same, After}
 use Rattle.rules.specs.Book.{kindCode, kindOfCode, twosComplement, yearOfTwos}
 use Rattle.book.specs.Views.{Bits}
-use Rattle.expanded.specs.Views.{kindOf}
-use Rattle.pennyquill.specs.declared.crossing.Coded.{Coded}
-use Rattle.pennyquill.specs.declared.crossing.Coded.the-variants as C
 use Rattle.pennyquill.specs.declared.PqAnswer.{PqAnswer}
 use Rattle.pennyquill.specs.declared.PqNumber.{PqNumber}
 use Rattle.pennyquill.specs.declared.PqRecord.{PqRecord}
@@ -77,12 +74,6 @@ abbrev pub recordCrossed : Answer Bits → PqRecord
 recordCrossed (Gives e) = record { refusal = 0; kind = kindCode (e .kind); value = dateNumber (e .date); field = 0 }
 recordCrossed (Refused n) = record { refusal = n; kind = 0; value = 0; field = 0 }
 recordCrossed (RefusedAt n place) = record { refusal = n; kind = 0; value = place; field = 0 }
-
--- ---- the code's view of a kind by its code
-
-abbrev pub coded : Coded → Answer Kind
-coded (C.Kind k) = Gives (kindOf k)
-coded C.None = Refused notOfKind
 
 -- ---- for the code's casts: the number that an answer carries, and the place that a refusal does
 

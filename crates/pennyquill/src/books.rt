@@ -8,11 +8,11 @@ ghost use Rattle.pennyquill.specs.Boundary.{yearIn, wordIn, crossed, rec
 use crate::PqAnswer;
 use crate::PqRecord;
 use crate::crossing;
-use crate::crossing::Coded;
 use book::Appended;
 use book::Checked;
 use book::Found;
 use book::Started;
+use codes::Coded;
 
 const BAD_LENGTH: u32 = 9;
 
@@ -89,7 +89,7 @@ fn record_crossed(found: Found) -> PqRecord
     match found {
         Found::Record { kind, date } => PqRecord {
             refusal: 0,
-            kind: crossing::kind_code(kind),
+            kind: codes::kind_code(kind) as u32,
             value: crossing::date_number(date),
             field: 0,
         },
@@ -122,7 +122,7 @@ pub extern "C" fn pq_book_append(book: &mut [u8], kind: u32, date: u32) -> PqAns
     ensures { λ r. ⌜ r ≡ crossed (appendAnswer today (entryFor kind (yearIn date) (wordIn date)) (now (book .entry))) ⌝ }
     ensures { λ _. ⌜ now (book .exit) ≡ appendBuffer today (entryFor kind (yearIn date) (wordIn date)) (now (book .entry)) ⌝ }
 {
-    let Coded::Kind(kind) = crossing::kind_of_code(kind) else {
+    let Coded::Kind(kind) = codes::kind_of_code(kind) else {
         return crossing::not_of_kind();
     };
     place_crossed(book::append(book, kind, crossing::date_in(date)))

@@ -1,77 +1,20 @@
-// A kind and a date as the numbers that cross, and the answers that have no value.
+// A date as the number that crosses, and the answers that have no value.
 ghost use mathlib.Core.Path.{_≡_};
-ghost use Prim.Native.Nat.{_<_};
 ghost use Rattle.rules.specs.Refusals.{Gives, Refused, notOfKind};
-ghost use Rattle.rules.specs.Book.{kindCode, kindOfCode, twosComplement, yearOfTwos};
-ghost use Rattle.expanded.specs.Views.{kindOf, bitsOf};
-ghost use Rattle.pennyquill.specs.Boundary.{dateNumber, yearIn, wordIn, crossed, numberCrossed, coded};
+ghost use Rattle.expanded.specs.Views.{bitsOf};
+ghost use Rattle.pennyquill.specs.Boundary.{dateNumber, yearIn, wordIn, crossed, numberCrossed};
 use crate::PqAnswer;
 use crate::PqNumber;
-use expanded::Kind;
 use expanded::Packed;
 
 // Refusal 4: the kind, or what is handed in as a date of it.
 const NOT_OF_KIND: u32 = 4;
 
-// A kind by its code.
-pub enum Coded {
-    Kind(Kind),
-    None,
-}
-
-pub fn kind_of_code(code: u32) -> Coded
-    ensures { λ r. ⌜ coded r ≡ kindOfCode code ⌝ }
-{
-    match code {
-        1 => Coded::Kind(Kind::Raw),
-        2 => Coded::Kind(Kind::Date),
-        3 => Coded::Kind(Kind::Hour),
-        4 => Coded::Kind(Kind::Uniform),
-        5 => Coded::Kind(Kind::Eu5),
-        6 => Coded::Kind(Kind::Vic3),
-        _ => Coded::None,
-    }
-}
-
-pub fn kind_code(kind: Kind) -> u32
-    ensures { λ r. ⌜ r ≡ kindCode (kindOf kind) ⌝ }
-{
-    match kind {
-        Kind::Raw => 1,
-        Kind::Date => 2,
-        Kind::Hour => 3,
-        Kind::Uniform => 4,
-        Kind::Eu5 => 5,
-        Kind::Vic3 => 6,
-    }
-}
-
-fn twos_complement(year: i16) -> u32
-    ensures { λ r. ⌜ r ≡ twosComplement year ⌝ }
-    ensures { λ r. ⌜ r < 65536 ⌝ }
-{
-    let halves = sign::halves16(year);
-    if 0 < halves.dn {
-        return (65536 - halves.dn) as u32;
-    }
-    halves.up as u32
-}
-
-fn year_of_twos(twos: u32) -> i16
-    requires { ⌜ twos < 65536 ⌝ }
-    ensures { λ r. ⌜ r ≡ yearOfTwos twos ⌝ }
-{
-    if twos < 32768 {
-        return sign::int16(twos as u64, 0);
-    }
-    sign::int16(twos as u64, 65536)
-}
-
 // The bits of a date, from its number; any number has some.
 pub fn date_in(date: u32) -> Packed
     ensures { λ r. ⌜ (r .year ≡ yearIn date) × (r .word ≡ wordIn date) ⌝ }
 {
-    let year = year_of_twos(date / 65536);
+    let year = codes::year_of_twos((date / 65536) as u16);
     let word = (date % 65536) as u16;
     Packed { year, word }
 }
@@ -80,7 +23,7 @@ pub fn date_in(date: u32) -> Packed
 pub fn date_number(date: Packed) -> u32
     ensures { λ r. ⌜ r ≡ dateNumber (bitsOf date) ⌝ }
 {
-    let year = twos_complement(date.year);
+    let year = codes::twos_complement(date.year) as u32;
     let word = date.word as u32;
     year * 65536 + word
 }

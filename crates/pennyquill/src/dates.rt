@@ -2,7 +2,7 @@
 ghost use mathlib.Core.Path.{_≡_};
 ghost use Rattle.rules.specs.Refusals.{notOfKind};
 ghost use Rattle.rules.specs.Kinds.{fieldSetHour, made, fromFields};
-ghost use Rattle.rules.specs.Numbers.{readsNumbers, readNumber, guesses, guessNumber};
+ghost use Rattle.rules.specs.Numbers.{readNumber, guessNumber};
 ghost use Rattle.rules.specs.Text.{readText};
 ghost use Rattle.expanded.specs.Views.{kindOf, answer};
 ghost use Rattle.number.specs.Views.{readAs, guessedAs};
@@ -10,8 +10,8 @@ ghost use Rattle.by_kind.specs.Views.{parsed};
 ghost use Rattle.pennyquill.specs.Boundary.{ofKindGiven, bitsCrossed, dateCrossed};
 use crate::PqAnswer;
 use crate::crossing;
-use crate::crossing::Coded;
 use by_kind::Parsed;
+use codes::Coded;
 use expanded::Kind;
 use expanded::Made;
 use number::Guess;
@@ -39,41 +39,13 @@ fn text_crossed(text: Parsed) -> PqAnswer
 pub extern "C" fn pq_read_text(kind: u32, text: &[u8]) -> PqAnswer
     ensures { λ r. ⌜ r ≡ dateCrossed (ofKindGiven kind (λ k. readText k (now (text .entry)))) ⌝ }
 {
-    let Coded::Kind(kind) = crossing::kind_of_code(kind) else {
+    let Coded::Kind(kind) = codes::kind_of_code(kind) else {
         return crossing::not_of_kind();
     };
     text_crossed(by_kind::parse(kind, text))
 }
 
 // ---- from a number
-
-// "U reads no number outside text"
-fn reads_numbers(kind: Kind) -> bool
-    ensures { λ r. ⌜ r ≡ readsNumbers (kindOf kind) ⌝ }
-{
-    match kind {
-        Kind::Raw => true,
-        Kind::Date => true,
-        Kind::Hour => true,
-        Kind::Uniform => false,
-        Kind::Eu5 => true,
-        Kind::Vic3 => true,
-    }
-}
-
-// "R and U have no guess"
-fn has_guess(kind: Kind) -> bool
-    ensures { λ r. ⌜ r ≡ guesses (kindOf kind) ⌝ }
-{
-    match kind {
-        Kind::Raw => false,
-        Kind::Date => true,
-        Kind::Hour => true,
-        Kind::Uniform => false,
-        Kind::Eu5 => true,
-        Kind::Vic3 => true,
-    }
-}
 
 fn read_crossed(read: Read) -> PqAnswer
     ensures { λ r. ⌜ r ≡ bitsCrossed (readAs read) ⌝ }
@@ -97,10 +69,10 @@ fn guess_crossed(guess: Guess) -> PqAnswer
 pub extern "C" fn pq_read_number(kind: u32, number: i32) -> PqAnswer
     ensures { λ r. ⌜ r ≡ dateCrossed (ofKindGiven kind (λ k. readNumber k number)) ⌝ }
 {
-    let Coded::Kind(kind) = crossing::kind_of_code(kind) else {
+    let Coded::Kind(kind) = codes::kind_of_code(kind) else {
         return crossing::not_of_kind();
     };
-    if reads_numbers(kind) {
+    if number::reads_numbers(kind) {
         return read_crossed(number::from_binary(kind, number));
     }
     crossing::not_of_kind()
@@ -110,10 +82,10 @@ pub extern "C" fn pq_read_number(kind: u32, number: i32) -> PqAnswer
 pub extern "C" fn pq_guess_number(kind: u32, number: i32) -> PqAnswer
     ensures { λ r. ⌜ r ≡ dateCrossed (ofKindGiven kind (λ k. guessNumber k number)) ⌝ }
 {
-    let Coded::Kind(kind) = crossing::kind_of_code(kind) else {
+    let Coded::Kind(kind) = codes::kind_of_code(kind) else {
         return crossing::not_of_kind();
     };
-    if has_guess(kind) {
+    if number::has_guess(kind) {
         return guess_crossed(number::from_binary_heuristic(kind, number));
     }
     crossing::not_of_kind()
@@ -174,7 +146,7 @@ fn date_of_fields(kind: Kind, year: i32, month: u32, day: u32, hour: u32) -> PqA
 pub extern "C" fn pq_from_fields(kind: u32, year: i32, month: u32, day: u32, hour: u32) -> PqAnswer
     ensures { λ r. ⌜ r ≡ dateCrossed (ofKindGiven kind (λ k. fromFields k (record { year = year; month = month; day = day; hour = hour }))) ⌝ }
 {
-    let Coded::Kind(kind) = crossing::kind_of_code(kind) else {
+    let Coded::Kind(kind) = codes::kind_of_code(kind) else {
         return crossing::not_of_kind();
     };
     date_of_fields(kind, year, month, day, field_set_hour(kind, hour))

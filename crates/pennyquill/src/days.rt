@@ -10,7 +10,7 @@ ghost use Rattle.pennyquill.specs.Boundary.{ofDateGiven, ofDatesGiven, b
 use crate::PqAnswer;
 use crate::PqNumber;
 use crate::crossing;
-use crate::crossing::Coded;
+use codes::Coded;
 use day_count::Days;
 use day_count::Start;
 use day_count::Sum;
@@ -47,7 +47,7 @@ fn start_crossed(start: Start) -> PqAnswer
 pub extern "C" fn pq_add_days(kind: u32, date: u32, days: i32) -> PqAnswer
     ensures { λ r. ⌜ r ≡ dateCrossed (ofDateGiven kind date (λ k f. addDays k f days)) ⌝ }
 {
-    let Coded::Kind(kind) = crossing::kind_of_code(kind) else {
+    let Coded::Kind(kind) = codes::kind_of_code(kind) else {
         return crossing::not_of_kind();
     };
     sum_crossed(day_count::add_days(kind, crossing::date_in(date), days))
@@ -57,7 +57,7 @@ pub extern "C" fn pq_add_days(kind: u32, date: u32, days: i32) -> PqAnswer
 pub extern "C" fn pq_start_of_day(kind: u32, date: u32) -> PqAnswer
     ensures { λ r. ⌜ r ≡ dateCrossed (ofDateGiven kind date (λ k f. startOfDay k f)) ⌝ }
 {
-    let Coded::Kind(kind) = crossing::kind_of_code(kind) else {
+    let Coded::Kind(kind) = codes::kind_of_code(kind) else {
         return crossing::not_of_kind();
     };
     start_crossed(day_count::start_of_day(kind, crossing::date_in(date)))
@@ -98,7 +98,7 @@ fn order_crossed(order: Ordered) -> PqNumber
 pub extern "C" fn pq_to_number(kind: u32, date: u32) -> PqNumber
     ensures { λ r. ⌜ r ≡ numberCrossed (ofDateGiven kind date (λ k f. writeNumber k f)) ⌝ }
 {
-    let Coded::Kind(kind) = crossing::kind_of_code(kind) else {
+    let Coded::Kind(kind) = codes::kind_of_code(kind) else {
         return crossing::no_number();
     };
     written_crossed(number::to_binary(kind, crossing::date_in(date)))
@@ -108,7 +108,7 @@ pub extern "C" fn pq_to_number(kind: u32, date: u32) -> PqNumber
 pub extern "C" fn pq_days_until(kind: u32, first: u32, second: u32) -> PqNumber
     ensures { λ r. ⌜ r ≡ numberCrossed (ofDatesGiven kind first second (λ k f g. difference k f g)) ⌝ }
 {
-    let Coded::Kind(kind) = crossing::kind_of_code(kind) else {
+    let Coded::Kind(kind) = codes::kind_of_code(kind) else {
         return crossing::no_number();
     };
     days_crossed(day_count::days_until(kind, crossing::date_in(first), crossing::date_in(second)))
@@ -118,7 +118,7 @@ pub extern "C" fn pq_days_until(kind: u32, first: u32, second: u32) -> PqNumber
 pub extern "C" fn pq_order(kind: u32, first: u32, second: u32) -> PqNumber
     ensures { λ r. ⌜ r ≡ orderCrossed (ofDatesGiven kind first second (λ k f g. Gives (order f g))) ⌝ }
 {
-    let Coded::Kind(kind) = crossing::kind_of_code(kind) else {
+    let Coded::Kind(kind) = codes::kind_of_code(kind) else {
         return crossing::no_number();
     };
     order_crossed(expanded::compare(kind, crossing::date_in(first), crossing::date_in(second)))

@@ -7,7 +7,7 @@ ghost use Rattle.formatter.specs.Views.{spelled};
 ghost use Rattle.pennyquill.specs.Boundary.{ofDateGiven, crossed, numberOf};
 use crate::PqAnswer;
 use crate::crossing;
-use crate::crossing::Coded;
+use codes::Coded;
 use formatter::Spelled;
 
 const BUFFER_SHORT: u32 = 7;
@@ -28,7 +28,7 @@ pub extern "C" fn pq_write_dotted(kind: u32, date: u32, out: &mut [u8]) -> PqAns
     ensures { λ r. ⌜ r ≡ crossed (putAnswer (ofDateGiven kind date (λ k f. Gives (dotted k f))) (now (out .entry))) ⌝ }
     ensures { λ _. ⌜ now (out .exit) ≡ putBuffer (ofDateGiven kind date (λ k f. Gives (dotted k f))) (now (out .entry)) ⌝ }
 {
-    let Coded::Kind(kind) = crossing::kind_of_code(kind) else {
+    let Coded::Kind(kind) = codes::kind_of_code(kind) else {
         return crossing::not_of_kind();
     };
     text_crossed(formatter::game_fmt(kind, crossing::date_in(date), out))
@@ -39,7 +39,7 @@ pub extern "C" fn pq_write_iso(kind: u32, date: u32, out: &mut [u8]) -> PqAnswer
     ensures { λ r. ⌜ r ≡ crossed (putAnswer (ofDateGiven kind date (λ k f. Gives (iso k f))) (now (out .entry))) ⌝ }
     ensures { λ _. ⌜ now (out .exit) ≡ putBuffer (ofDateGiven kind date (λ k f. Gives (iso k f))) (now (out .entry)) ⌝ }
 {
-    let Coded::Kind(kind) = crossing::kind_of_code(kind) else {
+    let Coded::Kind(kind) = codes::kind_of_code(kind) else {
         return crossing::not_of_kind();
     };
     text_crossed(formatter::iso_8601(kind, crossing::date_in(date), out))
@@ -50,7 +50,7 @@ pub extern "C" fn pq_write_iso_date(kind: u32, date: u32, out: &mut [u8]) -> PqA
     ensures { λ r. ⌜ r ≡ crossed (putAnswer (ofDateGiven kind date (λ k f. isoDateAlone k f)) (now (out .entry))) ⌝ }
     ensures { λ _. ⌜ now (out .exit) ≡ putBuffer (ofDateGiven kind date (λ k f. isoDateAlone k f)) (now (out .entry)) ⌝ }
 {
-    let Coded::Kind(kind) = crossing::kind_of_code(kind) else {
+    let Coded::Kind(kind) = codes::kind_of_code(kind) else {
         return crossing::not_of_kind();
     };
     text_crossed(formatter::date_fmt(kind, crossing::date_in(date), out))
@@ -61,7 +61,7 @@ pub extern "C" fn pq_write_exchange(kind: u32, date: u32, out: &mut [u8]) -> PqA
     ensures { λ r. ⌜ r ≡ crossed (putAnswer (ofDateGiven kind date (λ k f. Gives (exchange k f))) (now (out .entry))) ⌝ }
     ensures { λ _. ⌜ now (out .exit) ≡ putBuffer (ofDateGiven kind date (λ k f. Gives (exchange k f))) (now (out .entry)) ⌝ }
 {
-    let Coded::Kind(kind) = crossing::kind_of_code(kind) else {
+    let Coded::Kind(kind) = codes::kind_of_code(kind) else {
         return crossing::not_of_kind();
     };
     text_crossed(formatter::exchange(kind, crossing::date_in(date), out))

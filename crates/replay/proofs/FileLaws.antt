@@ -8,7 +8,7 @@ use lib.Dec.{eqb}
 use lib.ListN.{length, getD, drop, take}
 use lib.Seq.{drop-drop}
 use Rattle.rules.proofs.Rests.{here, past}
-use Rattle.replay.specs.Rows.{onto, rowLength, rowsOf}
+use Rattle.rows.specs.Rows.{onto, rowLength, rowsOf}
 use Rattle.replay.specs.Judged.{rowByRow}
 use Rattle.replay.specs.declared.Counts.{Counts}
 

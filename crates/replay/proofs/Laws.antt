@@ -1,26 +1,20 @@
--- Laws of the rows: equality of integers as a test, the end of a row, the digits of a number, the rows of a file. Assumes nothing.
+-- What is told: equality of integers and of what is told, as a test. Assumes nothing.
 use mathlib.Core.Path.{_≡_, refl, sym, ap, subst, _∙_}
 use mathlib.Core.Bool.{Bool, true, false, _&&_}
 use mathlib.Core.List.{List}
-use Prim.Native.Nat.{ℕ, suc, _+_, _*_, _-_, _^_, _≤_, _<_}
-use native.Mathlib.Nat.{one-le-pow, le-mul-of-pos-right}
+use Prim.Native.Nat.{ℕ}
 use native.Mathlib.Omega.{arith}
-use lib.Dec.{T, leb, eqb, lit<}
+use lib.Dec.{T, leb, eqb}
 use lib.IntN.{ℤ, pos, negsuc}
-use lib.ListN.{length, getD, drop}
 use mir.Syntax.{Width}
 use mir.Val.{toZ, ofZ, SFits}
 use mir.ValLaws.{toZ-ofZ}
-use borrow.Author.Tests.{le-leb, lt-leb, leb-true, leb-false, eq-eqb, ne-eqb, eqb-true}
+use borrow.Author.Tests.{le-leb, leb-true, eq-eqb, ne-eqb, eqb-true}
 use Rattle.rules.specs.Words.{eqZ}
-use Rattle.rules.specs.Refusals.{Gives, Refused, _then_, demand, notText}
-use Rattle.rules.specs.Text.{Read, digits, afterDigits, atEnd}
-use Rattle.rules.proofs.Rests.{here, past}
+use Rattle.rules.specs.Text.{Read}
 use Rattle.rules.proofs.KindLaws.{left, right}
-use Rattle.scalar.specs.Number.{most63, valueFrom, partialOf}
-use Rattle.scalar.proofs.Laws.{goes-on, stops-low, stops-high, stops-end}
 use Rattle.replay.specs.Verdicts.{sameTold}
-use Rattle.replay.specs.Rows.{Told, dateTold, afterByte, afterWord, mostOfRow, rowDigits, rowLength}
+use Rattle.replay.specs.Answers.{Told, dateTold}
 
 -- ---- tests
 
@@ -79,72 +73,6 @@ bits-eqZ w a b f g = bits-by (eqZ a b) w a b f g refl
 
 -- ---- a value read, and the rest of the row
 
-pub read-of : {A : Type 0} {a b : A} (s : List ℕ) → a ≡ b → _≡_ {A = Read A} (record { value = a; rest = s }) (record { value = b; rest = s })
-read-of s e = λ i. record { value = e i; rest = s }
-
 pub year-is : {y z : ℤ} → y ≡ z → (month day hour : ℕ) (s : List ℕ) →
     _≡_ {A = Read Told} (record { value = dateTold y month day hour; rest = s }) (record { value = dateTold z month day hour; rest = s })
 year-is e month day hour s = λ i. record { value = dateTold (e i) month day hour; rest = s }
-
--- ---- the end of a row
-
-end-by : (t : Bool) (s : List ℕ) (i : ℕ) → leb (length s) i ≡ t → atEnd (drop i s) ≡ t
-end-by true s i e = rw (past s i (leb-true _ _ e))
-end-by false s i e = rw (here s i (leb-false _ _ e))
-
-pub at-end : (s : List ℕ) (i : ℕ) → atEnd (drop i s) ≡ leb (length s) i
-at-end s i = end-by (leb (length s) i) s i refl
-
--- ---- a word, byte by byte
-
-pub word-goes-on : (w : List ℕ) (i : ℕ) (s : List ℕ) → i < length w → afterWord (drop i w) s ≡ afterWord (drop (i + 1) w) (afterByte (getD w i 0) s)
-word-goes-on w i s h = rw (here w i h)
-
--- ---- the digits of a number
-
--- a digit goes on
-pub digit-goes-on : (v : ℕ) (s : List ℕ) (i : ℕ) → i < length s → 48 ≤ getD s i 0 → getD s i 0 ≤ 57 →
-    rowDigits v (drop i s) ≡ rowDigits (v * 10 + (getD s i 0 - 48)) (drop (i + 1) s)
-unfolding rowDigits
-digit-goes-on v s i h l k = rw (goes-on v s i h l k)
-
--- no digit, or nothing, ends it
-pub digit-low : (v : ℕ) (s : List ℕ) (i : ℕ) → v ≤ mostOfRow → i < length s → getD s i 0 < 48 →
-    rowDigits v (drop i s) ≡ Gives (record { value = v; rest = drop i s })
-unfolding rowDigits
-digit-low v s i m h l = rw (stops-low v s i (omega arith) h l, le-leb v mostOfRow m)
-
-pub digit-high : (v : ℕ) (s : List ℕ) (i : ℕ) → v ≤ mostOfRow → i < length s → 48 ≤ getD s i 0 → 57 < getD s i 0 →
-    rowDigits v (drop i s) ≡ Gives (record { value = v; rest = drop i s })
-unfolding rowDigits
-digit-high v s i m h l k = rw (stops-high v s i (omega arith) h l k, le-leb v mostOfRow m)
-
-pub digit-end : (v : ℕ) (s : List ℕ) (i : ℕ) → v ≤ mostOfRow → length s ≤ i → rowDigits v (drop i s) ≡ Gives (record { value = v; rest = drop i s })
-unfolding rowDigits
-digit-end v s i m h = rw (stops-end v s i (omega arith) h, le-leb v mostOfRow m)
-
--- what is too large stays so, whatever digits follow
-too-large-by : (t : Bool) (r : Read ℕ) → mostOfRow < r .value →
-    (demand t notText (Gives r) then λ q. demand (leb (q .value) mostOfRow) notText (Gives q)) ≡ Refused notText
-too-large-by true r h = rw (lt-leb (r .value) mostOfRow h)
-too-large-by false r h = refl
-
-pub digit-too-large : (v : ℕ) (s : List ℕ) → mostOfRow < v → rowDigits v s ≡ Refused notText
-unfolding rowDigits partialOf
-digit-too-large v s h =
-    let p = le-mul-of-pos-right {m = 10 ^ length (digits s)} v (one-le-pow (length (digits s)) 10 (lit< tt)) in
-    too-large-by (leb (valueFrom v s) most63) (record { value = valueFrom v s; rest = afterDigits s }) (omega arith)
-
--- ---- the rows of a file
-
-pub row-ends : (s : List ℕ) (i : ℕ) → i < length s → getD s i 0 ≡ 10 → rowLength (drop i s) ≡ 1
-unfolding rowLength
-row-ends s i h e = rw (here s i h, eq-eqb (getD s i 0) 10 e)
-
-pub row-goes-on : (s : List ℕ) (i : ℕ) → i < length s → (getD s i 0 ≡ 10 → ⊥) → rowLength (drop i s) ≡ suc (rowLength (drop (i + 1) s))
-unfolding rowLength
-row-goes-on s i h e = rw (here s i h, ne-eqb (getD s i 0) 10 e)
-
-pub row-over : (s : List ℕ) (i : ℕ) → length s ≤ i → rowLength (drop i s) ≡ 0
-unfolding rowLength
-row-over s i h = rw (past s i h)

@@ -1,3 +1,4 @@
+pub mod AskedLaws
 pub mod FileLaws
 pub mod Laws
 pub mod QuotedLaws

@@ -12,7 +12,7 @@ use lib.Seq.{take-append-seam}
 use Rattle.rules.specs.Refusals.{Answer, Gives, Refused, RefusedAt}
 use Rattle.rules.specs.Spelling.{putAnswer, putBuffer}
 use Rattle.rules.proofs.LengthLaws.{Sized}
-use Rattle.replay.specs.Rows.{afterSpace, afterWord}
+use Rattle.rows.specs.Rows.{afterSpace, afterWord}
 use Rattle.replay.specs.Words.{textRoom, afterText, afterPut}
 
 put-by : (t : Bool) (text out s : List ℕ) → length out ≡ textRoom → leb (length text) textRoom ≡ t →

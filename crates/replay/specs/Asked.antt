@@ -12,7 +12,7 @@ use Rattle.rules.specs.Days.{Order, Before, Same, After, addDays, difference, o
 use Rattle.rules.specs.Text.{readText}
 use Rattle.rules.specs.Spelling.{dotted, iso, exchange, hasIsoDate, isoDateAlone}
 use Rattle.rules.specs.Listing.{letter}
-use Rattle.replay.specs.Rows.{Told, dateTold, refusedTold}
+use Rattle.replay.specs.Answers.{Told, dateTold, refusedTold}
 use Rattle.replay.specs.Verdicts.{unaskedNumber, unaskedTold}
 use Rattle.replay.specs.Words.{noTextAsked, afterText}
 
@@ -45,6 +45,12 @@ oneOf (k ∷ ks) ask none b = cond (eqb b (letter k)) (ask k) (oneOf ks ask none
 
 abbrev pub allKinds : List Kind
 allKinds = kR ∷ kD ∷ kH ∷ kU ∷ kE ∷ kV ∷ []
+
+-- asks a kind, where there is one
+abbrev pub ofNamed : {A : Type 0} → Answer Kind → (Kind → A) → A → A
+ofNamed (Gives k) ask none = ask k
+ofNamed (Refused n) ask none = none
+ofNamed (RefusedAt n place) ask none = none
 
 abbrev pub countingKinds : List Kind
 countingKinds = kD ∷ kE ∷ kV ∷ []

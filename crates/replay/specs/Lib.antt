@@ -1,7 +1,7 @@
+pub mod Answers
 pub mod Asked
 pub mod Judged
 pub mod Quoted
-pub mod Rows
 pub mod Verdicts
 pub mod Views
 pub mod Words

@@ -7,7 +7,7 @@ use lib.Dec.{ltb, eqb}
 use lib.ListN.{take, drop}
 use Rattle.rules.specs.Words.{within, byte}
 use Rattle.rules.specs.Text.{Read}
-use Rattle.replay.specs.Rows.{afterByte}
+use Rattle.rows.specs.Rows.{afterByte}
 use Rattle.replay.specs.declared.quoted.Quoted.{Quoted}
 use Rattle.replay.specs.declared.quoted.Spelled.{Spelled}
 

@@ -8,12 +8,11 @@ use lib.ListN.{drop}
 use Rattle.rules.specs.Words.{eqZ, byte}
 use Rattle.rules.specs.Refusals.{Answer, Gives, Refused, RefusedAt}
 use Rattle.rules.specs.Text.{Read}
-use Rattle.replay.specs.Rows.{Told, refusedTold, firstByte, endsRow}
+use Rattle.rows.specs.Rows.{firstByte, afterSpace, endsRow}
+use Rattle.replay.specs.Answers.{Told, refusedTold}
 use Rattle.replay.specs.declared.Verdict.{Verdict}
 use Rattle.replay.specs.declared.Verdict.the-variants.{Right, Wrong, Unread}
 use Rattle.replay.specs.declared.Counts.{Counts}
-use Rattle.replay.specs.declared.Way.{Way}
-use Rattle.replay.specs.declared.Way.the-variants as W
 
 -- both say the same
 abbrev pub sameTold : Told → Told → Bool
@@ -50,21 +49,13 @@ judgeRestOf texts (RefusedAt n place) = Unread
 
 -- ---- counts
 
--- the rows of numbers are told apart by their second letter too
-abbrev pub hasMark : Way → List ℕ → ℕ → Bool
-hasMark W.Texts row mark = true
-hasMark W.Numbers row mark = eqb (firstByte (drop 2 row)) mark
-hasMark W.Fields row mark = true
-hasMark W.Additions row mark = true
-hasMark W.Differences row mark = true
-hasMark W.Binaries row mark = true
-hasMark W.Orders row mark = true
-hasMark W.Spellings row mark = true
-hasMark W.Exchanges row mark = true
+-- the mark of a row: what it asks
+abbrev pub markOf : List ℕ → ℕ
+markOf row = firstByte (afterSpace (drop 1 row))
 
 -- whether a row is one of those to be counted; 0 in the place of a kind's letter picks every row
-unfoldable pub pickedOf : Way → List ℕ → ℕ → ℕ → Bool
-pickedOf way row kind mark = cond (eqb kind 0) true (eqb (firstByte row) kind && hasMark way row mark)
+unfoldable pub pickedOf : List ℕ → ℕ → ℕ → Bool
+pickedOf row kind mark = cond (eqb kind 0) true (eqb (firstByte row) kind && eqb (markOf row) mark)
 
 -- one row more
 abbrev pub countedOf : Counts → Verdict → Counts

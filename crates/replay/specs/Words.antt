@@ -5,7 +5,7 @@ use mathlib.Core.List.{List}
 use lib.Dec.{leb}
 use lib.ListN.{length, take, drop}
 use Rattle.rules.specs.Refusals.{Answer, Gives, Refused, RefusedAt}
-use Rattle.replay.specs.Rows.{afterSpace, afterWord}
+use Rattle.rows.specs.Rows.{afterSpace, afterWord}
 use Rattle.replay.specs.Verdicts.{unaskedNumber}
 use Rattle.replay.specs.declared.words.Passed.{Passed}
 use Rattle.replay.specs.declared.words.Passed.the-variants as P

@@ -1,4 +1,4 @@
-// Rows `K DATE DAYS DATE`: a date moved by days.
+// Rows `K a DATE DAYS DATE`: a date moved by days.
 ghost use mathlib.Core.Path.{_≡_};
 ghost use Rattle.rules.specs.Kinds.{kD, kE, kV};
 ghost use Rattle.replay.specs.Verdicts.{unaskedTold};
@@ -6,15 +6,11 @@ ghost use Rattle.replay.specs.Asked.{oneOf, countingKinds, additionAsked
 ghost use Rattle.replay.specs.Judged.{additionsJudged};
 ghost use Rattle.replay.specs.Views.{told};
 use crate::Verdict;
-use crate::Way;
 use crate::answers;
 use crate::answers::Said;
 use crate::dates;
 use crate::judge;
-use crate::line;
-use crate::rows;
 use crate::unasked;
-use crate::unread;
 use date::Date;
 use eu5_date::Eu5Date;
 use expanded::Kind;
@@ -84,16 +80,8 @@ fn asked(kind: u8, f: Said, days: i32) -> Said
 pub(crate) fn judged(row: &[u8]) -> Verdict
     ensures { λ r. ⌜ r ≡ additionsJudged (now (row .entry)) ⌝ }
 {
-    let f = answers::date(row, rows::after(row, 1, b' '));
+    let f = answers::date(row, rows::after(row, 3, b' '));
     let days = rows::whole32(row, rows::after(row, f.next, b' '));
     let said = answers::answer(row, rows::after(row, days.next, b' '));
     judge(row, said, asked(rows::byte(row, 0), f, days.value))
-}
-
-// It prints, which no contract can say.
-pub fn report(s: &[u8]) {
-    line(Way::Additions, s, b'D', b'a');
-    line(Way::Additions, s, b'E', b'a');
-    line(Way::Additions, s, b'V', b'a');
-    unread(Way::Additions, s);
 }

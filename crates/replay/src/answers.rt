@@ -4,11 +4,10 @@ ghost use mathlib.Core.Bool.{true};
 ghost use Prim.Native.Nat.{_≤_};
 ghost use lib.ListN.{drop};
 ghost use Rattle.rules.specs.Words.{bytes, eqZ};
-ghost use Rattle.replay.specs.Rows.{afterWord, fitsYear, dateTold, refusedTold, noAnswer, fitBytes, dateOf, refusalOf, answerOf};
+ghost use Rattle.rows.specs.Rows.{afterWord};
+ghost use Rattle.replay.specs.Answers.{fitsYear, dateTold, refusedTold, noAnswer, fitBytes, dateOf, refusalOf, answerOf};
 ghost use Rattle.replay.specs.Verdicts.{sameTold};
 ghost use Rattle.replay.specs.Views.{told, toldRead};
-use crate::rows;
-use crate::words;
 
 // A date with its stored hour, or the number of a refusal (0: none), and the place after it.
 pub(crate) struct Said {
@@ -112,7 +111,7 @@ pub(crate) fn date(s: &[u8], at: usize) -> Said
 fn after_refused(s: &[u8], at: usize) -> usize
     ensures { λ r. ⌜ drop r (now (s .entry)) ≡ afterWord (bytes "refused ") (drop at (now (s .entry))) ⌝ }
 {
-    words::after_word(s, at, b"refused ")
+    rows::after_word(s, at, b"refused ")
 }
 
 // `refused N`.

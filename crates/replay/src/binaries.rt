@@ -1,4 +1,4 @@
-// Rows `K DATE N`: the number of a date.
+// Rows `K n DATE N`: the number of a date.
 ghost use mathlib.Core.Path.{_≡_};
 ghost use mathlib.Core.List.{[], _∷_};
 ghost use Rattle.rules.specs.Kinds.{kD, kH};
@@ -7,22 +7,18 @@ ghost use Rattle.replay.specs.Asked.{oneOf, noNumberAsked, orUnasked, bi
 ghost use Rattle.replay.specs.Judged.{binariesJudged};
 ghost use Rattle.replay.specs.Views.{told, wholeAsked};
 use crate::Verdict;
-use crate::Way;
 use crate::answers;
 use crate::answers::Said;
 use crate::asked_number;
 use crate::dates;
 use crate::judge_number;
-use crate::line;
-use crate::rows;
-use crate::rows::Whole;
 use crate::unasked_number;
-use crate::unread;
 use date::Date;
 use date_hour::DateHour;
 use expanded::Kind;
 use expanded::Made;
 use number::Written;
+use rows::Whole;
 
 fn number_of(w: Written) -> Whole
     ensures { λ r. ⌜ wholeAsked r ≡ orUnasked (writtenAs w) ⌝ }
@@ -67,14 +63,7 @@ fn asked(kind: u8, f: Said) -> Whole
 pub(crate) fn judged(row: &[u8]) -> Verdict
     ensures { λ r. ⌜ r ≡ binariesJudged (now (row .entry)) ⌝ }
 {
-    let f = answers::date(row, rows::after(row, 1, b' '));
+    let f = answers::date(row, rows::after(row, 3, b' '));
     let said = rows::whole32(row, rows::after(row, f.next, b' '));
     judge_number(row, said, asked(rows::byte(row, 0), f))
-}
-
-// It prints, which no contract can say.
-pub fn report(s: &[u8]) {
-    line(Way::Binaries, s, b'D', b'n');
-    line(Way::Binaries, s, b'H', b'n');
-    unread(Way::Binaries, s);
 }

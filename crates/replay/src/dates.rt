@@ -11,6 +11,7 @@ use date_hour::DateHour;
 use eu5_date::Eu5Date;
 use expanded::Kind;
 use expanded::Made;
+use expanded::Packed;
 use raw_date::RawDate;
 use uniform_date::UniformDate;
 use vic3_date::Vic3Date;
@@ -50,6 +51,20 @@ pub(crate) fn vic3(d: Vic3Date) -> Said
     ensures { λ r. ⌜ told r ≡ shownBits (d .raw .year) (d .raw .word) ⌝ }
 {
     answers::seen(d.year(), d.month(), d.day(), d.hour())
+}
+
+// The same for a kind that is given as a value.
+pub(crate) fn of_kind(kind: Kind, raw: Packed) -> Said
+    ensures { λ r. ⌜ told r ≡ shownBits (raw .year) (raw .word) ⌝ }
+{
+    match kind {
+        Kind::Raw => self::raw(RawDate { raw }),
+        Kind::Date => date(Date { raw }),
+        Kind::Hour => hour(DateHour { raw }),
+        Kind::Uniform => uniform(UniformDate { raw }),
+        Kind::Eu5 => eu5(Eu5Date { raw }),
+        Kind::Vic3 => vic3(Vic3Date { raw }),
+    }
 }
 
 // A date of the kind with the fields of a row, its hour included.

@@ -1,4 +1,4 @@
-// Rows `K DATE DATE N`: the days from the first date to the second.
+// Rows `K d DATE DATE N`: the days from the first date to the second.
 ghost use mathlib.Core.Path.{_≡_};
 ghost use Rattle.rules.specs.Kinds.{kD, kE, kV};
 ghost use Rattle.day_count.specs.Views.{counted};
@@ -6,22 +6,18 @@ ghost use Rattle.replay.specs.Asked.{oneOf, countingKinds, noNumberAsked
 ghost use Rattle.replay.specs.Judged.{differencesJudged};
 ghost use Rattle.replay.specs.Views.{told, wholeAsked};
 use crate::Verdict;
-use crate::Way;
 use crate::answers;
 use crate::answers::Said;
 use crate::asked_number;
 use crate::dates;
 use crate::judge_number;
-use crate::line;
-use crate::rows;
-use crate::rows::Whole;
 use crate::unasked_number;
-use crate::unread;
 use date::Date;
 use day_count::Days;
 use eu5_date::Eu5Date;
 use expanded::Kind;
 use expanded::Made;
+use rows::Whole;
 use vic3_date::Vic3Date;
 
 fn number_of(d: Days) -> Whole
@@ -87,16 +83,8 @@ fn asked(kind: u8, f: Said, g: Said) -> Whole
 pub(crate) fn judged(row: &[u8]) -> Verdict
     ensures { λ r. ⌜ r ≡ differencesJudged (now (row .entry)) ⌝ }
 {
-    let f = answers::date(row, rows::after(row, 1, b' '));
+    let f = answers::date(row, rows::after(row, 3, b' '));
     let g = answers::date(row, rows::after(row, f.next, b' '));
     let said = rows::whole32(row, rows::after(row, g.next, b' '));
     judge_number(row, said, asked(rows::byte(row, 0), f, g))
-}
-
-// It prints, which no contract can say.
-pub fn report(s: &[u8]) {
-    line(Way::Differences, s, b'D', b'd');
-    line(Way::Differences, s, b'E', b'd');
-    line(Way::Differences, s, b'V', b'd');
-    unread(Way::Differences, s);
 }

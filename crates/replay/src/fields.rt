@@ -1,4 +1,4 @@
-// Rows `K YEAR MONTH DAY HOUR DATE`: the date of given fields. D, U and E are asked without an hour, and their rows have 0 there.
+// Rows `K f YEAR MONTH DAY HOUR DATE`: the date of given fields. D, U and E are asked without an hour, and their rows have 0 there.
 ghost use mathlib.Core.Path.{_≡_};
 ghost use Rattle.rules.specs.Kinds.{kR, kD, kH, kU, kE, kV};
 ghost use Rattle.replay.specs.Verdicts.{unaskedTold};
@@ -6,15 +6,11 @@ ghost use Rattle.replay.specs.Asked.{oneOf, allKinds, fieldsAsked};
 ghost use Rattle.replay.specs.Judged.{fieldsJudged};
 ghost use Rattle.replay.specs.Views.{told};
 use crate::Verdict;
-use crate::Way;
 use crate::answers;
 use crate::answers::Said;
 use crate::dates;
 use crate::judge;
-use crate::line;
-use crate::rows;
 use crate::unasked;
-use crate::unread;
 use date::Date;
 use date_hour::DateHour;
 use eu5_date::Eu5Date;
@@ -109,18 +105,7 @@ fn asked(kind: u8, f: Said) -> Said
 pub(crate) fn judged(row: &[u8]) -> Verdict
     ensures { λ r. ⌜ r ≡ fieldsJudged (now (row .entry)) ⌝ }
 {
-    let f = answers::date(row, rows::after(row, 1, b' '));
+    let f = answers::date(row, rows::after(row, 3, b' '));
     let said = answers::answer(row, rows::after(row, f.next, b' '));
     judge(row, said, asked(rows::byte(row, 0), f))
-}
-
-// It prints, which no contract can say.
-pub fn report(s: &[u8]) {
-    line(Way::Fields, s, b'R', b'f');
-    line(Way::Fields, s, b'D', b'f');
-    line(Way::Fields, s, b'H', b'f');
-    line(Way::Fields, s, b'U', b'f');
-    line(Way::Fields, s, b'E', b'f');
-    line(Way::Fields, s, b'V', b'f');
-    unread(Way::Fields, s);
 }

@@ -1,42 +1,30 @@
 // The stored answers of the original, and exchange texts worked out from the scope, asked again: each row is read,
-// the kind's public method is called, and what it answers is held against what the row says.
+// the kind's public method is called, and what it answers is held against what the row says. A row starts with the
+// letter of its kind, a space, and the mark of what is asked.
 ghost use mathlib.Core.Path.{_≡_};
 ghost use Prim.Native.Nat.{_+_, _<_, _≤_};
 ghost use Rattle.rules.specs.Refusals.{Gives, Refused};
-ghost use Rattle.replay.specs.Verdicts.{unaskedTold, unaskedNumber, judgeOf, judgeNumberOf, hasMark, pickedOf, countedOf};
+ghost use Rattle.replay.specs.Verdicts.{unaskedTold, unaskedNumber, judgeOf, judgeNumberOf, markOf, pickedOf, countedOf};
 ghost use Rattle.replay.specs.Judged.{judgedOf, withRowOf, tallyOf};
-ghost use Rattle.replay.specs.Views.{nowhere, wholeRead, wholeAsked, told, toldRead};
+ghost use Rattle.replay.specs.Views.{wholeAsked, told, toldRead};
+ghost use Rattle.rows.specs.Views.{nowhere, wholeRead};
 use crate::answers::Said;
-use crate::rows::Whole;
-use libc::STDOUT_FILENO;
+use rows::Whole;
 
-pub mod additions;
+mod additions;
 mod answers;
-pub mod binaries;
+mod binaries;
 mod dates;
-pub mod differences;
-pub mod exchanges;
-pub mod fields;
-pub mod numbers;
-pub mod orders;
+mod differences;
+mod exchanges;
+mod fields;
+mod kinds;
+mod numbers;
+mod orders;
 mod quoted;
-pub mod rows;
-pub mod spellings;
-pub mod texts;
-pub mod words;
-
-// What the rows of a file ask.
-enum Way {
-    Texts,
-    Numbers,
-    Fields,
-    Additions,
-    Differences,
-    Binaries,
-    Orders,
-    Spellings,
-    Exchanges,
-}
+mod spellings;
+mod texts;
+mod words;
 
 // What became of a row. An unread one is not a row of its file, or asks what the kind does not have.
 enum Verdict {
@@ -45,14 +33,15 @@ enum Verdict {
     Unread,
 }
 
-struct Counts {
-    rows: u64,
-    wrong: u64,
-    unread: u64,
+// How many rows were read, how many of these say another thing than the kind answers, and how many rows were not read.
+pub struct Counts {
+    pub rows: u64,
+    pub wrong: u64,
+    pub unread: u64,
 }
 
-// In the place of a kind: every row.
-const EVERY: u8 = 0;
+// In the place of a kind: every row, whatever its mark.
+pub const EVERY: u8 = 0;
 
 // In the place of a refusal's number: the method is not there to be asked.
 const UNASKED: u8 = 255;
@@ -110,48 +99,40 @@ fn judge_number(row: &[u8], said: Whole, got: Whole) -> Verdict
     Verdict::Unread
 }
 
-fn judged(way: Way, row: &[u8]) -> Verdict
-    ensures { λ r. ⌜ r ≡ judgedOf way (now (row .entry)) ⌝ }
+// What a row asks: the letter after its kind's.
+fn mark_of(row: &[u8]) -> u8
+    ensures { λ r. ⌜ r ≡ markOf (now (row .entry)) ⌝ }
 {
-    match way {
-        Way::Texts => texts::judged(row),
-        Way::Numbers => numbers::judged(row),
-        Way::Fields => fields::judged(row),
-        Way::Additions => additions::judged(row),
-        Way::Differences => differences::judged(row),
-        Way::Binaries => binaries::judged(row),
-        Way::Orders => orders::judged(row),
-        Way::Spellings => spellings::judged(row),
-        Way::Exchanges => exchanges::judged(row),
-    }
+    rows::byte(row, rows::after(row, 1, b' '))
 }
 
-// Rows of numbers are told apart by their second letter too.
-fn has_mark(way: Way, row: &[u8], mark: u8) -> bool
-    ensures { λ r. ⌜ r ≡ hasMark way (now (row .entry)) mark ⌝ }
+fn judged(row: &[u8]) -> Verdict
+    ensures { λ r. ⌜ r ≡ judgedOf (now (row .entry)) ⌝ }
 {
-    match way {
-        Way::Texts => true,
-        Way::Numbers => rows::byte(row, 2) == mark,
-        Way::Fields => true,
-        Way::Additions => true,
-        Way::Differences => true,
-        Way::Binaries => true,
-        Way::Orders => true,
-        Way::Spellings => true,
-        Way::Exchanges => true,
+    match mark_of(row) {
+        b't' => texts::judged(row),
+        b'b' => numbers::judged(row),
+        b'g' => numbers::judged(row),
+        b'f' => fields::judged(row),
+        b'a' => additions::judged(row),
+        b'd' => differences::judged(row),
+        b'n' => binaries::judged(row),
+        b'o' => orders::judged(row),
+        b's' => spellings::judged(row),
+        b'x' => exchanges::judged(row),
+        _ => Verdict::Unread,
     }
 }
 
 // Whether a row is one of those to be counted.
-fn picked(way: Way, row: &[u8], kind: u8, mark: u8) -> bool
-    ensures { λ r. ⌜ r ≡ pickedOf way (now (row .entry)) kind mark ⌝ }
+fn picked(row: &[u8], kind: u8, mark: u8) -> bool
+    ensures { λ r. ⌜ r ≡ pickedOf (now (row .entry)) kind mark ⌝ }
 {
     if kind == EVERY {
         return true;
     }
     if rows::byte(row, 0) == kind {
-        return has_mark(way, row, mark);
+        return mark_of(row) == mark;
     }
     false
 }
@@ -184,9 +165,9 @@ fn counted(t: Counts, v: Verdict) -> Counts
     }
 }
 
-// The counts over the rows of a file.
-fn tally(way: Way, s: &[u8], kind: u8, mark: u8) -> Counts
-    ensures { λ r. ⌜ r ≡ tallyOf way (now (s .entry)) kind mark ⌝ }
+// The counts over the rows of a file that have this kind's letter and this mark.
+pub fn tally(s: &[u8], kind: u8, mark: u8) -> Counts
+    ensures { λ r. ⌜ r ≡ tallyOf (now (s .entry)) kind mark ⌝ }
 {
     let mut t = Counts {
         rows: 0,
@@ -196,48 +177,19 @@ fn tally(way: Way, s: &[u8], kind: u8, mark: u8) -> Counts
     let mut at = 0;
     while at < s.len() {
         let end = rows::next_line(s, at);
-        t = with_row(way, &s[at..end], kind, mark, t);
+        t = with_row(&s[at..end], kind, mark, t);
         at = end;
     }
     t
 }
 
-fn with_row(way: Way, row: &[u8], kind: u8, mark: u8, t: Counts) -> Counts
+fn with_row(row: &[u8], kind: u8, mark: u8, t: Counts) -> Counts
     requires { ⌜ (t .rows < nowhere) × (t .wrong < nowhere) × (t .unread < nowhere) ⌝ }
-    ensures { λ r. ⌜ r ≡ withRowOf way kind mark (now (row .entry)) t ⌝ }
+    ensures { λ r. ⌜ r ≡ withRowOf kind mark (now (row .entry)) t ⌝ }
     ensures { λ r. ⌜ (r .rows ≤ t .rows + 1) × (r .wrong ≤ t .wrong + 1) × (r .unread ≤ t .unread + 1) ⌝ }
 {
-    if picked(way, row, kind, mark) {
-        return counted(t, judged(way, row));
+    if picked(row, kind, mark) {
+        return counted(t, judged(row));
     }
     t
-}
-
-fn print(text: &[u8]) {
-    io::write_all(STDOUT_FILENO, text);
-}
-
-// `print`, `line`, `unread` and the nine `report` functions write, which no contract can say.
-// A line for a kind and a way: how many rows were read, and how many of them say another thing.
-fn line(way: Way, s: &[u8], kind: u8, mark: u8) {
-    let t = tally(way, s, kind, mark);
-    let head = [kind, b' ', mark, b' '];
-    print(&head);
-    io::print_decimal(STDOUT_FILENO, t.rows);
-    print(b" ");
-    io::print_decimal(STDOUT_FILENO, t.wrong);
-    print(b"\n");
-}
-
-// The last line: how many rows of all were not read.
-fn unread(way: Way, s: &[u8]) {
-    let t = tally(way, s, EVERY, 0);
-    print(b"unread ");
-    io::print_decimal(STDOUT_FILENO, t.unread);
-    print(b"\n");
-}
-
-// Room for the longest of the files. Its contract says nothing: an `ensures` on an array of this length runs the checker out of stack.
-pub fn room() -> [u8; 131072] {
-    [0u8; 131072]
 }

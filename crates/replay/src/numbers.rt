@@ -7,15 +7,12 @@ ghost use Rattle.replay.specs.Asked.{oneOf, numberAsked, guessAsked, num
 ghost use Rattle.replay.specs.Judged.{numbersJudged};
 ghost use Rattle.replay.specs.Views.{told};
 use crate::Verdict;
-use crate::Way;
 use crate::answers;
 use crate::answers::Said;
 use crate::dates;
 use crate::judge;
-use crate::line;
-use crate::rows;
+use crate::mark_of;
 use crate::unasked;
-use crate::unread;
 use date::Date;
 use date_hour::DateHour;
 use eu5_date::Eu5Date;
@@ -152,22 +149,8 @@ fn asked(kind: u8, way: u8, n: i32) -> Said
 pub(crate) fn judged(row: &[u8]) -> Verdict
     ensures { λ r. ⌜ r ≡ numbersJudged (now (row .entry)) ⌝ }
 {
-    let way = rows::byte(row, rows::after(row, 1, b' '));
+    let way = mark_of(row);
     let n = rows::whole32(row, rows::after(row, 3, b' '));
     let said = answers::answer(row, rows::after(row, n.next, b' '));
     judge(row, said, asked(rows::byte(row, 0), way, n.value))
-}
-
-// It prints, which no contract can say.
-pub fn report(s: &[u8]) {
-    line(Way::Numbers, s, b'R', b'b');
-    line(Way::Numbers, s, b'D', b'b');
-    line(Way::Numbers, s, b'D', b'g');
-    line(Way::Numbers, s, b'H', b'b');
-    line(Way::Numbers, s, b'H', b'g');
-    line(Way::Numbers, s, b'E', b'b');
-    line(Way::Numbers, s, b'E', b'g');
-    line(Way::Numbers, s, b'V', b'b');
-    line(Way::Numbers, s, b'V', b'g');
-    unread(Way::Numbers, s);
 }

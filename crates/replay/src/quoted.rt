@@ -1,12 +1,12 @@
 // A text in double quotes, as a row has it: bytes 0x21 to 0x7e other than `"` and `\` are themselves,
 // every other byte is `\xNN`.
-use crate::rows::NOWHERE;
-use crate::rows::after;
+use rows::NOWHERE;
+use rows::after;
 ghost use mathlib.Core.Path.{_≡_};
 ghost use Prim.Native.Nat.{_<_, _≤_};
 ghost use lib.ListN.{length, drop};
 ghost use Rattle.replay.specs.Quoted.{hexValue, escapedOf, singleOf, spelled, quotedOf, quotedRead};
-ghost use Rattle.replay.specs.Views.{nowhere};
+ghost use Rattle.rows.specs.Views.{nowhere};
 
 // How many bytes the text has, and the place after it.
 pub(crate) struct Quoted {

@@ -1,160 +1,61 @@
-// Rows `K DATE DOTTED ISO`, for E with a third text, the ISO date alone: the texts of a date.
+// Rows `K s DATE DOTTED ISO`, for E with a third text, the ISO date alone: the texts of a date.
 ghost use mathlib.Core.Path.{_≡_};
 ghost use lib.ListN.{drop};
-ghost use Rattle.rules.specs.Kinds.{kR, kD, kH, kU, kE, kV};
+ghost use Rattle.expanded.specs.Views.{kindOf};
 ghost use Rattle.replay.specs.Asked.{oneOf, allKinds, spellingAsked};
 ghost use Rattle.replay.specs.Judged.{spellingsJudged};
 ghost use Rattle.replay.specs.Views.{told};
 ghost use Rattle.replay.specs.Words.{noTextAsked, passedTo};
 use crate::Verdict;
-use crate::Way;
 use crate::answers;
 use crate::answers::Said;
 use crate::dates;
-use crate::line;
-use crate::rows;
-use crate::unread;
+use crate::kinds;
 use crate::words;
 use crate::words::Passed;
-use date::Date;
-use date_hour::DateHour;
 use eu5_date::Eu5Date;
 use expanded::Kind;
 use expanded::Made;
-use raw_date::RawDate;
-use uniform_date::UniformDate;
-use vic3_date::Vic3Date;
+use rows::Lettered;
 
-fn raw(f: Said, row: &[u8], at: usize) -> Passed
-    ensures { λ r. ⌜ passedTo (now (row .entry)) r ≡ spellingAsked kR (told f) (drop at (now (row .entry))) ⌝ }
+// The place after the texts of a kind, where the date is of the kind.
+fn of_kind(kind: Kind, f: Said, row: &[u8], at: usize) -> Passed
+    ensures { λ r. ⌜ passedTo (now (row .entry)) r ≡ spellingAsked (kindOf kind) (told f) (drop at (now (row .entry))) ⌝ }
 {
-    let Made::Date(raw) = dates::packed(Kind::Raw, f) else {
+    let Made::Date(raw) = dates::packed(kind, f) else {
         return Passed::Unasked;
     };
-    let from = RawDate { raw };
     let mut out = [0u8; 16];
-    let dotted = from.game_fmt(&mut out);
+    let dotted = kinds::game_fmt(kind, raw, &mut out);
     let Passed::To(iso_at) = words::after_text(row, at, &out, dotted) else {
         return Passed::Unasked;
     };
-    let iso = from.iso_8601(&mut out);
-    words::after_text(row, iso_at, &out, iso)
-}
-
-fn date(f: Said, row: &[u8], at: usize) -> Passed
-    ensures { λ r. ⌜ passedTo (now (row .entry)) r ≡ spellingAsked kD (told f) (drop at (now (row .entry))) ⌝ }
-{
-    let Made::Date(raw) = dates::packed(Kind::Date, f) else {
+    let iso = kinds::iso_8601(kind, raw, &mut out);
+    let Passed::To(end) = words::after_text(row, iso_at, &out, iso) else {
         return Passed::Unasked;
     };
-    let from = Date { raw };
-    let mut out = [0u8; 16];
-    let dotted = from.game_fmt(&mut out);
-    let Passed::To(iso_at) = words::after_text(row, at, &out, dotted) else {
-        return Passed::Unasked;
-    };
-    let iso = from.iso_8601(&mut out);
-    words::after_text(row, iso_at, &out, iso)
-}
-
-fn hour(f: Said, row: &[u8], at: usize) -> Passed
-    ensures { λ r. ⌜ passedTo (now (row .entry)) r ≡ spellingAsked kH (told f) (drop at (now (row .entry))) ⌝ }
-{
-    let Made::Date(raw) = dates::packed(Kind::Hour, f) else {
-        return Passed::Unasked;
-    };
-    let from = DateHour { raw };
-    let mut out = [0u8; 16];
-    let dotted = from.game_fmt(&mut out);
-    let Passed::To(iso_at) = words::after_text(row, at, &out, dotted) else {
-        return Passed::Unasked;
-    };
-    let iso = from.iso_8601(&mut out);
-    words::after_text(row, iso_at, &out, iso)
-}
-
-fn uniform(f: Said, row: &[u8], at: usize) -> Passed
-    ensures { λ r. ⌜ passedTo (now (row .entry)) r ≡ spellingAsked kU (told f) (drop at (now (row .entry))) ⌝ }
-{
-    let Made::Date(raw) = dates::packed(Kind::Uniform, f) else {
-        return Passed::Unasked;
-    };
-    let from = UniformDate { raw };
-    let mut out = [0u8; 16];
-    let dotted = from.game_fmt(&mut out);
-    let Passed::To(iso_at) = words::after_text(row, at, &out, dotted) else {
-        return Passed::Unasked;
-    };
-    let iso = from.iso_8601(&mut out);
-    words::after_text(row, iso_at, &out, iso)
-}
-
-fn eu5(f: Said, row: &[u8], at: usize) -> Passed
-    ensures { λ r. ⌜ passedTo (now (row .entry)) r ≡ spellingAsked kE (told f) (drop at (now (row .entry))) ⌝ }
-{
-    let Made::Date(raw) = dates::packed(Kind::Eu5, f) else {
-        return Passed::Unasked;
-    };
-    let from = Eu5Date { raw };
-    let mut out = [0u8; 16];
-    let dotted = from.game_fmt(&mut out);
-    let Passed::To(iso_at) = words::after_text(row, at, &out, dotted) else {
-        return Passed::Unasked;
-    };
-    let iso = from.iso_8601(&mut out);
-    let Passed::To(alone_at) = words::after_text(row, iso_at, &out, iso) else {
-        return Passed::Unasked;
-    };
-    let alone = from.date_fmt(&mut out);
-    words::after_text(row, alone_at, &out, alone)
-}
-
-fn vic3(f: Said, row: &[u8], at: usize) -> Passed
-    ensures { λ r. ⌜ passedTo (now (row .entry)) r ≡ spellingAsked kV (told f) (drop at (now (row .entry))) ⌝ }
-{
-    let Made::Date(raw) = dates::packed(Kind::Vic3, f) else {
-        return Passed::Unasked;
-    };
-    let from = Vic3Date { raw };
-    let mut out = [0u8; 16];
-    let dotted = from.game_fmt(&mut out);
-    let Passed::To(iso_at) = words::after_text(row, at, &out, dotted) else {
-        return Passed::Unasked;
-    };
-    let iso = from.iso_8601(&mut out);
-    words::after_text(row, iso_at, &out, iso)
+    if kinds::has_iso_date(kind) {
+        let from = Eu5Date { raw };
+        let alone = from.date_fmt(&mut out);
+        return words::after_text(row, end, &out, alone);
+    }
+    Passed::To(end)
 }
 
 // What the kind of a letter answers.
-fn asked(kind: u8, f: Said, row: &[u8], at: usize) -> Passed
-    ensures { λ r. ⌜ passedTo (now (row .entry)) r ≡ oneOf allKinds (λ k. spellingAsked k (told f) (drop at (now (row .entry)))) noTextAsked kind ⌝ }
+fn asked(letter: u8, f: Said, row: &[u8], at: usize) -> Passed
+    ensures { λ r. ⌜ passedTo (now (row .entry)) r ≡ oneOf allKinds (λ k. spellingAsked k (told f) (drop at (now (row .entry)))) noTextAsked letter ⌝ }
 {
-    match kind {
-        b'R' => raw(f, row, at),
-        b'D' => date(f, row, at),
-        b'H' => hour(f, row, at),
-        b'U' => uniform(f, row, at),
-        b'E' => eu5(f, row, at),
-        b'V' => vic3(f, row, at),
-        _ => Passed::Unasked,
-    }
+    let Lettered::Kind(kind) = rows::kind_of(letter) else {
+        return Passed::Unasked;
+    };
+    of_kind(kind, f, row, at)
 }
 
 pub(crate) fn judged(row: &[u8]) -> Verdict
     ensures { λ r. ⌜ r ≡ spellingsJudged (now (row .entry)) ⌝ }
 {
-    let f = answers::date(row, rows::after(row, 1, b' '));
+    let f = answers::date(row, rows::after(row, 3, b' '));
     let from = f.next;
     words::judge_rest(row, from, asked(rows::byte(row, 0), f, row, from))
-}
-
-// It prints, which no contract can say.
-pub fn report(s: &[u8]) {
-    line(Way::Spellings, s, b'R', b's');
-    line(Way::Spellings, s, b'D', b's');
-    line(Way::Spellings, s, b'H', b's');
-    line(Way::Spellings, s, b'U', b's');
-    line(Way::Spellings, s, b'E', b's');
-    line(Way::Spellings, s, b'V', b's');
-    unread(Way::Spellings, s);
 }

@@ -1,13 +1,12 @@
-// A word of a row, and the text of a date that the row must have there: the first bytes of a buffer, after a space.
+// The text of a date that a row must have at a place: the first bytes of a buffer, after a space.
 ghost use mathlib.Core.Path.{_≡_};
 ghost use Prim.Native.Nat.{_≤_};
 ghost use lib.ListN.{length, take, drop};
 ghost use Rattle.formatter.specs.Views.{spelled, lengthOf};
-ghost use Rattle.replay.specs.Rows.{afterSpace, afterWord};
+ghost use Rattle.rows.specs.Rows.{afterSpace, afterWord};
 ghost use Rattle.replay.specs.Verdicts.{judgeRestOf};
 ghost use Rattle.replay.specs.Words.{passedTo, afterPut};
 use crate::Verdict;
-use crate::rows;
 use formatter::Spelled;
 
 // The place to which a row is passed, or that there was no text to ask for.
@@ -16,26 +15,13 @@ pub(crate) enum Passed {
     Unasked,
 }
 
-// The place after a word that must stand at a place.
-pub fn after_word(s: &[u8], at: usize, word: &[u8]) -> usize
-    ensures { λ r. ⌜ drop r (now (s .entry)) ≡ afterWord (now (word .entry)) (drop at (now (s .entry))) ⌝ }
-{
-    let mut i = 0;
-    let mut place = at;
-    while i < word.len() {
-        place = rows::after(s, place, word[i]);
-        i += 1;
-    }
-    place
-}
-
 // The place after a space and the first bytes of a buffer.
 fn after_first(row: &[u8], at: usize, out: &[u8], len: usize) -> usize
     requires { ⌜ len ≤ length (now out) ⌝ }
     ensures { λ r. ⌜ drop r (now (row .entry)) ≡ afterWord (take len (now (out .entry))) (afterSpace (drop at (now (row .entry)))) ⌝ }
 {
     let from = rows::after(row, at, b' ');
-    after_word(row, from, &out[..len])
+    rows::after_word(row, from, &out[..len])
 }
 
 // The same for a text that a kind wrote, where it wrote one.

@@ -3,7 +3,6 @@ ghost use mathlib.Core.Path.{_≡_};
 ghost use mathlib.Core.Bool.{true};
 ghost use Prim.Native.Nat.{_≤_};
 ghost use lib.ListN.{length};
-ghost use Rattle.rules.specs.Numbers.{readsNumbers, guesses};
 ghost use Rattle.rules.specs.Listing.{kindOfLetter, wayOfLetter, hasWay, readLine};
 ghost use Rattle.expanded.specs.Views.{kindOf};
 ghost use Rattle.request.specs.Views.{wayOf, lettered, marked, asks, hasWayIn, restAt};
@@ -46,41 +45,13 @@ fn way_of_letter(b: u8) -> Marked
     }
 }
 
-// U reads no number outside text.
-fn reads_numbers(kind: Kind) -> bool
-    ensures { λ r. ⌜ r ≡ readsNumbers (kindOf kind) ⌝ }
-{
-    match kind {
-        Kind::Raw => true,
-        Kind::Date => true,
-        Kind::Hour => true,
-        Kind::Uniform => false,
-        Kind::Eu5 => true,
-        Kind::Vic3 => true,
-    }
-}
-
-// R and U have no guess.
-fn has_guess(kind: Kind) -> bool
-    ensures { λ r. ⌜ r ≡ guesses (kindOf kind) ⌝ }
-{
-    match kind {
-        Kind::Raw => false,
-        Kind::Date => true,
-        Kind::Hour => true,
-        Kind::Uniform => false,
-        Kind::Eu5 => true,
-        Kind::Vic3 => true,
-    }
-}
-
 fn has_way(kind: Kind, way: Way) -> bool
     ensures { λ r. ⌜ r ≡ hasWay (kindOf kind) (wayOf way) ⌝ }
 {
     match way {
         Way::Text => true,
-        Way::Number => reads_numbers(kind),
-        Way::Guess => has_guess(kind),
+        Way::Number => number::reads_numbers(kind),
+        Way::Guess => number::has_guess(kind),
     }
 }
 

@@ -13,7 +13,7 @@ returns c =
 returns-2 : tie.Need-returns-2
 unfolding pickedOf
 returns-2 c =
-    rw (c .has-mark .ensures, ne-eqb _ _ (c .before .before .before .if1 .left), ← (c .before .before .byte .ensures), eq-eqb _ _ (c .before .if2 .taken))
+    rw (c .mark-of .ensures, ne-eqb _ _ (c .before .before .before .if1 .left), ← (c .before .before .byte .ensures), eq-eqb _ _ (c .before .if2 .taken))
 
 returns-3 : tie.Need-returns-3
 unfolding pickedOf

@@ -5,7 +5,7 @@ use mir.Syntax.{w16}
 use mir.Val.{toZ, ofZ}
 use Rattle.sign.proofs.Bits.{held}
 use Rattle.rules.specs.Book.{yearOfTwos}
-use Rattle.book.specs.Views.{coded}
+use Rattle.codes.specs.Views.{coded}
 use Rattle.book.proofs.Laws.{no-kind, of-kind, not-of-kind}
 use borrow.Author.Needs.{needs}
 use Rattle.book.proofs.slots.slot_of.Statement.{statement}

@@ -10,8 +10,8 @@ use Rattle.pennyquill.proofs.crossing.date_number.Tie as tie
 
 returns : tie.Need-returns
 returns c =
-    let d = c .before .before .before .args .date in omega (arith, c .before .twos-complement .ensures .0 ∙ ap twosComplement (held w16 {z = d .year} (c .before .before .struct-told .given .0 .1)))
+    let d = c .before .before .before .args .date in omega (arith, c .before .twos-complement .ensures ∙ ap twosComplement (held w16 {z = d .year} (c .before .before .struct-told .given .0 .1)))
 
 pub date-number-spec : {M : Type 1} → statement M
 date-number-spec =
-    tie.close (tie.spec (λ c κs. search needs) (λ c. search needs) (λ c. search needs) (λ c. search needs) returns)
+    tie.close (tie.spec (λ c κs. search needs) (λ c. search needs) (λ c. search needs) (λ c. search needs) (λ c. search needs) returns)

@@ -1,6 +1,6 @@
 -- `replay::answers::answer` meets its contract: by the first byte. Assumes nothing.
 use borrow.Author.Tests.{eq-eqb, ne-eqb}
-use Rattle.replay.specs.Rows.{answerOf}
+use Rattle.replay.specs.Answers.{answerOf}
 use borrow.Author.Needs.{needs}
 use Rattle.replay.proofs.answers.answer.Statement.{statement}
 use Rattle.replay.proofs.answers.answer.Tie as tie

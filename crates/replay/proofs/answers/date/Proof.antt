@@ -4,7 +4,7 @@ use mathlib.Core.Path.{_∙_}
 use mathlib.Core.Logic.{⊎-elim}
 use mir.Syntax.{w16}
 use Rattle.sign.proofs.Bits.{held}
-use Rattle.replay.specs.Rows.{dateOf}
+use Rattle.replay.specs.Answers.{dateOf}
 use Rattle.replay.proofs.Laws.{year-is}
 use borrow.Author.Needs.{needs}
 use Rattle.replay.proofs.answers.date.Statement.{statement}

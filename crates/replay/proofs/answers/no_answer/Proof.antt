@@ -1,7 +1,7 @@
 -- `replay::answers::no_answer` meets its contract: nothing stands at NOWHERE. Assumes nothing.
 use native.Mathlib.Omega.{arith}
 use Rattle.rules.proofs.Rests.{past}
-use Rattle.replay.specs.Views.{nowhere}
+use Rattle.rows.specs.Views.{nowhere}
 use Rattle.replay.proofs.answers.no_answer.Statement.{statement}
 use Rattle.replay.proofs.answers.no_answer.Tie as tie
 

@@ -1,6 +1,6 @@
 -- `replay::answers::refusal` meets its contract: the number after the word, where it is a byte. Assumes nothing.
 use borrow.Author.Tests.{le-leb, lt-leb}
-use Rattle.replay.specs.Rows.{refusalOf}
+use Rattle.replay.specs.Answers.{refusalOf}
 use borrow.Author.Needs.{needs}
 use Rattle.replay.proofs.answers.refusal.Statement.{statement}
 use Rattle.replay.proofs.answers.refusal.Tie as tie

@@ -2,7 +2,7 @@
 use native.Mathlib.Omega.{arith}
 use borrow.Author.Tests.{eq-eqb, ne-eqb, lt-ltb, le-ltb}
 use Rattle.rules.proofs.Rests.{past}
-use Rattle.replay.specs.Views.{nowhere}
+use Rattle.rows.specs.Views.{nowhere}
 use Rattle.replay.proofs.QuotedLaws.{escaped-short, escaped-long}
 use borrow.Author.Needs.{needs}
 use Rattle.replay.proofs.quoted.escaped.Statement.{statement}

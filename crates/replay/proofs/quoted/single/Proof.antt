@@ -4,7 +4,7 @@ use mathlib.Core.Path.{sym, _∙_}
 use borrow.Author.Tests.{ne-eqb, le-leb, lt-leb}
 use Rattle.rules.proofs.Rests.{here, past}
 use Rattle.replay.specs.Quoted.{singleOf}
-use Rattle.replay.specs.Views.{nowhere}
+use Rattle.rows.specs.Views.{nowhere}
 use Rattle.replay.proofs.QuotedLaws.{single-escaped}
 use borrow.Author.Needs.{needs}
 use Rattle.replay.proofs.quoted.single.Statement.{statement}

@@ -1,0 +1,152 @@
+// The lines of a script. A reader that does not find its part answers NOWHERE as the place after it, as those of `rows` do, so
+// that a line is read to its end, and tested once.
+use crate::operations::Operation;
+use expanded::Kind;
+use expanded::Packed;
+use rows::Lettered;
+
+pub(crate) enum Line {
+    Remark,
+    Buffer {
+        length: usize,
+        byte: u8,
+    },
+    Set {
+        place: usize,
+        byte: u8,
+    },
+    Copy {
+        from: usize,
+        count: usize,
+        to: usize,
+    },
+    Operation(Operation),
+    Unread,
+}
+
+pub(crate) fn read(row: &[u8]) -> Line {
+    match rows::byte(row, 0) {
+        b'#' => Line::Remark,
+        b'b' => buffer(row),
+        b's' => set(row),
+        b'c' => copy_or_check(row),
+        b'n' => new(row),
+        b'r' => record(row),
+        b'a' => append(row),
+        _ => Line::Unread,
+    }
+}
+
+fn copy_or_check(row: &[u8]) -> Line {
+    if rows::byte(row, 1) == b'o' {
+        return copy(row);
+    }
+    check(row)
+}
+
+// ---- a place is a number of 64 bits
+
+fn place_of(n: u64) -> usize {
+    n as usize
+}
+
+// ---- what prepares the buffer
+
+fn buffer(row: &[u8]) -> Line {
+    let length = rows::natural(row, rows::after_word(row, 0, b"buffer "));
+    let byte = rows::natural(row, rows::after(row, length.next, b' '));
+    if rows::ends(row, byte.next) {
+        if byte.up <= 255 {
+            return Line::Buffer {
+                length: place_of(length.up),
+                byte: byte.up as u8,
+            };
+        }
+    }
+    Line::Unread
+}
+
+fn set(row: &[u8]) -> Line {
+    let place = rows::natural(row, rows::after_word(row, 0, b"set "));
+    let byte = rows::natural(row, rows::after(row, place.next, b' '));
+    if rows::ends(row, byte.next) {
+        if byte.up <= 255 {
+            return Line::Set {
+                place: place_of(place.up),
+                byte: byte.up as u8,
+            };
+        }
+    }
+    Line::Unread
+}
+
+fn copy(row: &[u8]) -> Line {
+    let from = rows::natural(row, rows::after_word(row, 0, b"copy "));
+    let count = rows::natural(row, rows::after(row, from.next, b' '));
+    let to = rows::natural(row, rows::after(row, count.next, b' '));
+    if rows::ends(row, to.next) {
+        return Line::Copy {
+            from: place_of(from.up),
+            count: place_of(count.up),
+            to: place_of(to.up),
+        };
+    }
+    Line::Unread
+}
+
+// ---- the operations
+
+fn new(row: &[u8]) -> Line {
+    if rows::ends(row, rows::after_word(row, 0, b"new")) {
+        return Line::Operation(Operation::New);
+    }
+    Line::Unread
+}
+
+fn check(row: &[u8]) -> Line {
+    if rows::ends(row, rows::after_word(row, 0, b"check")) {
+        return Line::Operation(Operation::Check);
+    }
+    Line::Unread
+}
+
+fn record(row: &[u8]) -> Line {
+    let place = rows::natural(row, rows::after_word(row, 0, b"record "));
+    if rows::ends(row, place.next) {
+        let at = place_of(place.up);
+        return Line::Operation(Operation::Record(at));
+    }
+    Line::Unread
+}
+
+fn append(row: &[u8]) -> Line {
+    let at = rows::after_word(row, 0, b"append ");
+    let letter = rows::byte(row, at);
+    match rows::kind_of(letter) {
+        Lettered::Kind(kind) => append_date(row, rows::after(row, at, letter), kind),
+        Lettered::None => Line::Unread,
+    }
+}
+
+// The year and the word that follow the letter of a kind.
+fn append_date(row: &[u8], at: usize, kind: Kind) -> Line {
+    let year = rows::signed(row, rows::after(row, at, b' '));
+    let word = rows::natural(row, rows::after(row, year.next, b' '));
+    if rows::ends(row, word.next) {
+        let up = year.up;
+        let dn = year.dn;
+        let packed = word.up;
+        if up <= 32767 {
+            if dn <= 32768 {
+                if packed <= 65535 {
+                    let date = Packed {
+                        year: sign::int16(up, dn),
+                        word: packed as u16,
+                    };
+                    return Line::Operation(Operation::Append { kind, date });
+                }
+            }
+        }
+    }
+    Line::Unread
+}

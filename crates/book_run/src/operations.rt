@@ -1,0 +1,84 @@
+// The book's operations, and what each answers in one type.
+ghost use mathlib.Core.Path.{_≡_};
+ghost use Rattle.rules.specs.Refusals.{Gives, _then_};
+ghost use Rattle.book.specs.Views.{startedAs, checkedAs, foundAs, appendedAs};
+ghost use Rattle.book_run.specs.Operations.{Done, Number, Recorded, toldAs, answerOf, bufferOf};
+use book::Appended;
+use book::Checked;
+use book::Found;
+use book::Started;
+use expanded::Kind;
+use expanded::Packed;
+
+pub(crate) enum Operation {
+    New,
+    Check,
+    Record(usize),
+    Append { kind: Kind, date: Packed },
+}
+
+// What is told of an operation: what it gives, or the number of its refusal, which for a bad record has a place.
+pub(crate) enum Told {
+    Done,
+    Number(usize),
+    Record { kind: Kind, date: Packed },
+    Refused(u8),
+    BadRecord(usize),
+}
+
+pub(crate) fn operate(b: &mut [u8], operation: Operation) -> Told
+    ensures { λ r. ⌜ toldAs r ≡ answerOf operation (now (b .entry)) ⌝ }
+    ensures { λ r. ⌜ now (b .exit) ≡ bufferOf operation (now (b .entry)) ⌝ }
+{
+    match operation {
+        Operation::New => started(book::new(b)),
+        Operation::Check => checked(book::check(b)),
+        Operation::Record(place) => found(book_reader::next_at(b, place)),
+        Operation::Append { kind, date } => appended(book::append(b, kind, date)),
+    }
+}
+
+fn started(answer: Started) -> Told
+    ensures { λ r. ⌜ toldAs r ≡ (startedAs answer then λ n. Gives Done) ⌝ }
+{
+    match answer {
+        Started::Written => Told::Done,
+        Started::NoRoom => Told::Refused(12),
+    }
+}
+
+fn checked(answer: Checked) -> Told
+    ensures { λ r. ⌜ toldAs r ≡ (checkedAs answer then λ n. Gives (Number n)) ⌝ }
+{
+    match answer {
+        Checked::Records(n) => Told::Number(n),
+        Checked::BadLength => Told::Refused(9),
+        Checked::BadVersion => Told::Refused(10),
+        Checked::BadRecord(place) => Told::BadRecord(place),
+    }
+}
+
+fn found(answer: Found) -> Told
+    ensures { λ r. ⌜ toldAs r ≡ (foundAs answer then λ b. Gives (Recorded b)) ⌝ }
+{
+    match answer {
+        Found::Record { kind, date } => Told::Record { kind, date },
+        Found::BadLength => Told::Refused(9),
+        Found::BadVersion => Told::Refused(10),
+        Found::BadRecord(place) => Told::BadRecord(place),
+        Found::NoRecord => Told::Refused(13),
+    }
+}
+
+fn appended(answer: Appended) -> Told
+    ensures { λ r. ⌜ toldAs r ≡ (appendedAs answer then λ n. Gives (Number n)) ⌝ }
+{
+    match answer {
+        Appended::At(n) => Told::Number(n),
+        Appended::NotOfKind => Told::Refused(4),
+        Appended::BadLength => Told::Refused(9),
+        Appended::BadVersion => Told::Refused(10),
+        Appended::BadRecord(place) => Told::BadRecord(place),
+        Appended::NoRoom => Told::Refused(12),
+    }
+}

@@ -1,0 +1,59 @@
+// A kind as the book's code of it, and a year as its two's complement: how the book and the C boundary store them.
+ghost use mathlib.Core.Path.{_≡_};
+ghost use Rattle.rules.specs.Book.{kindCode, kindOfCode, twosComplement, yearOfTwos};
+ghost use Rattle.expanded.specs.Views.{kindOf};
+ghost use Rattle.codes.specs.Views.{coded};
+use expanded::Kind;
+
+// A kind by its code.
+pub enum Coded {
+    Kind(Kind),
+    None,
+}
+
+pub fn kind_code(kind: Kind) -> u8
+    ensures { λ r. ⌜ r ≡ kindCode (kindOf kind) ⌝ }
+{
+    match kind {
+        Kind::Raw => 1,
+        Kind::Date => 2,
+        Kind::Hour => 3,
+        Kind::Uniform => 4,
+        Kind::Eu5 => 5,
+        Kind::Vic3 => 6,
+    }
+}
+
+// The whole number is looked at: 258 is no kind's code, though its low byte is one.
+pub fn kind_of_code(code: u32) -> Coded
+    ensures { λ r. ⌜ coded r ≡ kindOfCode code ⌝ }
+{
+    match code {
+        1 => Coded::Kind(Kind::Raw),
+        2 => Coded::Kind(Kind::Date),
+        3 => Coded::Kind(Kind::Hour),
+        4 => Coded::Kind(Kind::Uniform),
+        5 => Coded::Kind(Kind::Eu5),
+        6 => Coded::Kind(Kind::Vic3),
+        _ => Coded::None,
+    }
+}
+
+pub fn twos_complement(year: i16) -> u16
+    ensures { λ r. ⌜ r ≡ twosComplement year ⌝ }
+{
+    let halves = sign::halves16(year);
+    if 0 < halves.dn {
+        return (65536 - halves.dn) as u16;
+    }
+    halves.up as u16
+}
+
+pub fn year_of_twos(twos: u16) -> i16
+    ensures { λ r. ⌜ r ≡ yearOfTwos twos ⌝ }
+{
+    if twos < 32768 {
+        return sign::int16(twos as u64, 0);
+    }
+    sign::int16(twos as u64, 65536)
+}

@@ -1,0 +1,28 @@
+-- The code's types, as what a row says: a place stands for the rest of the row from there. Assumes nothing.
+use Prim.Native.Nat.{ℕ}
+use mathlib.Core.List.{List}
+use lib.IntN.{ℤ}
+use lib.ListN.{drop}
+use Rattle.rules.specs.Refusals.{Answer, Gives, Refused, unreadableLine}
+use Rattle.rules.specs.Kinds.{Kind}
+use Rattle.rules.specs.Text.{Read}
+use Rattle.expanded.specs.Views.{kindOf}
+use Rattle.rows.specs.Rows as R
+use Rattle.rows.specs.declared.Lettered.{Lettered}
+use Rattle.rows.specs.declared.Lettered.the-variants as L
+use Rattle.rows.specs.declared.Number.{Number}
+use Rattle.rows.specs.declared.Whole.{Whole}
+
+-- a place past the end of every slice
+abbrev pub nowhere : ℕ
+nowhere = 18446744073709551615
+
+abbrev pub number : List ℕ → Number → R.Number
+number s n = record { up = n .up; dn = n .dn; rest = drop (n .next) s }
+
+abbrev pub wholeRead : List ℕ → Whole → Read ℤ
+wholeRead s w = record { value = w .value; rest = drop (w .next) s }
+
+abbrev pub lettered : Lettered → Answer Kind
+lettered (L.Kind k) = Gives (kindOf k)
+lettered L.None = Refused unreadableLine

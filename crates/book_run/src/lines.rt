@@ -1,9 +1,9 @@
 // The lines of a script. A reader that does not find its part answers NOWHERE as the place after it, as those of `rows` do, so
 // that a line is read to its end, and tested once.
 use crate::operations::Operation;
+use codes::Lettered;
 use expanded::Kind;
 use expanded::Packed;
-use rows::Lettered;
 
 pub(crate) enum Line {
     Remark,
@@ -122,7 +122,7 @@ fn record(row: &[u8]) -> Line {
 fn append(row: &[u8]) -> Line {
     let at = rows::after_word(row, 0, b"append ");
     let letter = rows::byte(row, at);
-    match rows::kind_of(letter) {
+    match codes::kind_of_letter(letter) {
         Lettered::Kind(kind) => append_date(row, rows::after(row, at, letter), kind),
         Lettered::None => Line::Unread,
     }

@@ -1,9 +1,6 @@
 // What is told of the lines of a script. These functions write, which no contract can say; `weighed` is the sum that stands for a long buffer.
-ghost use mathlib.Core.Path.{_≡_};
 ghost use Prim.Native.Nat.{_<_, _≤_};
 ghost use lib.ListN.{length};
-ghost use Rattle.rules.specs.Listing.{letter};
-ghost use Rattle.expanded.specs.Views.{kindOf};
 use crate::operations::Told;
 use expanded::Kind;
 use expanded::Packed;
@@ -89,22 +86,9 @@ fn answer(told: Told) {
     }
 }
 
-fn letter_of(kind: Kind) -> u8
-    ensures { λ r. ⌜ r ≡ letter (kindOf kind) ⌝ }
-{
-    match kind {
-        Kind::Raw => b'R',
-        Kind::Date => b'D',
-        Kind::Hour => b'H',
-        Kind::Uniform => b'U',
-        Kind::Eu5 => b'E',
-        Kind::Vic3 => b'V',
-    }
-}
-
 // `K YEAR WORD`.
 fn record(kind: Kind, date: Packed) {
-    let letter = [letter_of(kind), b' '];
+    let letter = [codes::letter(kind), b' '];
     print(&letter);
     let year = sign::halves16(date.year);
     if 0 < year.dn {

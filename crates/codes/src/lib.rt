@@ -1,14 +1,49 @@
-// A kind as the book's code of it, and a year as its two's complement: how the book and the C boundary store them.
+// A kind as its letter, as `datelist` reads and prints it; a kind as its code and a year as its two's complement, as the book and the
+// C boundary store them.
 ghost use mathlib.Core.Path.{_≡_};
+ghost use Rattle.rules.specs.Listing.{letter, kindOfLetter};
 ghost use Rattle.rules.specs.Book.{kindCode, kindOfCode, twosComplement, yearOfTwos};
 ghost use Rattle.expanded.specs.Views.{kindOf};
-ghost use Rattle.codes.specs.Views.{coded};
+ghost use Rattle.codes.specs.Views.{lettered, coded};
 use expanded::Kind;
+
+// A kind by its letter.
+pub enum Lettered {
+    Kind(Kind),
+    None,
+}
 
 // A kind by its code.
 pub enum Coded {
     Kind(Kind),
     None,
+}
+
+pub fn letter(kind: Kind) -> u8
+    ensures { λ r. ⌜ r ≡ letter (kindOf kind) ⌝ }
+{
+    match kind {
+        Kind::Raw => b'R',
+        Kind::Date => b'D',
+        Kind::Hour => b'H',
+        Kind::Uniform => b'U',
+        Kind::Eu5 => b'E',
+        Kind::Vic3 => b'V',
+    }
+}
+
+pub fn kind_of_letter(b: u8) -> Lettered
+    ensures { λ r. ⌜ lettered r ≡ kindOfLetter b ⌝ }
+{
+    match b {
+        b'R' => Lettered::Kind(Kind::Raw),
+        b'D' => Lettered::Kind(Kind::Date),
+        b'H' => Lettered::Kind(Kind::Hour),
+        b'U' => Lettered::Kind(Kind::Uniform),
+        b'E' => Lettered::Kind(Kind::Eu5),
+        b'V' => Lettered::Kind(Kind::Vic3),
+        _ => Lettered::None,
+    }
 }
 
 pub fn kind_code(kind: Kind) -> u8

@@ -42,7 +42,7 @@ fn build(s: &[u8], out: &mut [u8]) -> usize
             let answer = request::date_by(kind, way, s);
             match answer {
                 Asked::Date(date) => output::put_date(out, kind, date),
-                Asked::Refused(n) => output::put_refused(out, output::letter(kind), n),
+                Asked::Refused(n) => output::put_refused(out, codes::letter(kind), n),
             }
         }
         Request::Unreadable => output::put_refused(out, b'?', UNREADABLE),

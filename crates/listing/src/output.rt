@@ -7,27 +7,13 @@ ghost use lib.ListN.{length};
 ghost use Rattle.rules.specs.Refusals.{given};
 ghost use Rattle.rules.specs.Kinds.{unpacked, handedIn};
 ghost use Rattle.rules.specs.Spelling.{dotted, iso};
-ghost use Rattle.rules.specs.Listing.{letter, refusedText, lineEnd};
+ghost use Rattle.rules.specs.Listing.{refusedText, lineEnd};
 ghost use Rattle.expanded.specs.Views.{kindOf};
 ghost use Rattle.formatter.specs.Pieces.{placed};
 ghost use Rattle.listing.specs.Views.{dateLine};
 use expanded::Kind;
 use expanded::Packed;
 use formatter::Spelled;
-
-// The letter of a kind.
-pub(crate) fn letter(kind: Kind) -> u8
-    ensures { λ r. ⌜ r ≡ letter (kindOf kind) ⌝ }
-{
-    match kind {
-        Kind::Raw => b'R',
-        Kind::Date => b'D',
-        Kind::Hour => b'H',
-        Kind::Uniform => b'U',
-        Kind::Eu5 => b'E',
-        Kind::Vic3 => b'V',
-    }
-}
 
 // The fixed word between the letter and the number of a refusal.
 pub(crate) fn put_refused(out: &mut [u8], front: u8, n: u8) -> usize
@@ -76,7 +62,7 @@ pub(crate) fn put_date(out: &mut [u8], kind: Kind, date: Packed) -> usize
     ensures { λ r. ⌜ (r ≡ length (dateLine (kindOf kind) (unpacked (date .year) (date .word)))) × (r ≤ 40) ⌝ }
     ensures { λ _. ⌜ now (out .exit) ≡ placed (dateLine (kindOf kind) (unpacked (date .year) (date .word))) (now (out .entry)) ⌝ }
 {
-    out[0] = letter(kind);
+    out[0] = codes::letter(kind);
     out[1] = b' ';
     let space = 2 + put_dotted(&mut out[2..], kind, date);
     out[space] = b' ';

@@ -12,10 +12,10 @@ use crate::dates;
 use crate::judge_number;
 use crate::kinds;
 use crate::unasked_number;
+use codes::Lettered;
 use expanded::Kind;
 use expanded::Made;
 use expanded::Ordered;
-use rows::Lettered;
 use rows::Whole;
 
 fn number_of(o: Ordered) -> Whole
@@ -46,7 +46,7 @@ fn of_kind(kind: Kind, f: Said, g: Said) -> Whole
 fn asked(letter: u8, f: Said, g: Said) -> Whole
     ensures { λ r. ⌜ wholeAsked r ≡ oneOf allKinds (λ k. orderAsked k (told f) (told g)) noNumberAsked letter ⌝ }
 {
-    let Lettered::Kind(kind) = rows::kind_of(letter) else {
+    let Lettered::Kind(kind) = codes::kind_of_letter(letter) else {
         return unasked_number();
     };
     of_kind(kind, f, g)

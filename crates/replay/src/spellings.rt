@@ -13,10 +13,10 @@ use crate::dates;
 use crate::kinds;
 use crate::words;
 use crate::words::Passed;
+use codes::Lettered;
 use eu5_date::Eu5Date;
 use expanded::Kind;
 use expanded::Made;
-use rows::Lettered;
 
 // The place after the texts of a kind, where the date is of the kind.
 fn of_kind(kind: Kind, f: Said, row: &[u8], at: usize) -> Passed
@@ -46,7 +46,7 @@ fn of_kind(kind: Kind, f: Said, row: &[u8], at: usize) -> Passed
 fn asked(letter: u8, f: Said, row: &[u8], at: usize) -> Passed
     ensures { λ r. ⌜ passedTo (now (row .entry)) r ≡ oneOf allKinds (λ k. spellingAsked k (told f) (drop at (now (row .entry)))) noTextAsked letter ⌝ }
 {
-    let Lettered::Kind(kind) = rows::kind_of(letter) else {
+    let Lettered::Kind(kind) = codes::kind_of_letter(letter) else {
         return Passed::Unasked;
     };
     of_kind(kind, f, row, at)

@@ -14,8 +14,8 @@ use crate::judge;
 use crate::quoted;
 use crate::unasked;
 use by_kind::Parsed;
+use codes::Lettered;
 use expanded::Kind;
-use rows::Lettered;
 
 fn of_kind(kind: Kind, text: &[u8]) -> Said
     ensures { λ r. ⌜ told r ≡ textAsked (kindOf kind) (now (text .entry)) ⌝ }
@@ -32,7 +32,7 @@ fn of_kind(kind: Kind, text: &[u8]) -> Said
 fn asked(letter: u8, text: &[u8]) -> Said
     ensures { λ r. ⌜ told r ≡ textsAsked letter (now (text .entry)) ⌝ }
 {
-    let Lettered::Kind(kind) = rows::kind_of(letter) else {
+    let Lettered::Kind(kind) = codes::kind_of_letter(letter) else {
         return unasked();
     };
     of_kind(kind, text)

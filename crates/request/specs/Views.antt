@@ -14,8 +14,6 @@ use Rattle.request.specs.declared.Request.{Request}
 use Rattle.request.specs.declared.Request.the-variants as R
 use Rattle.request.specs.declared.Asked.{Asked}
 use Rattle.request.specs.declared.Asked.the-variants as A
-use Rattle.request.specs.declared.line.Lettered.{Lettered}
-use Rattle.request.specs.declared.line.Lettered.the-variants as T
 use Rattle.request.specs.declared.line.Marked.{Marked}
 use Rattle.request.specs.declared.line.Marked.the-variants as M
 use Rattle.request.specs.declared.numeral.Numeral.{Numeral}
@@ -27,10 +25,6 @@ abbrev pub wayOf : Way → L.Way
 wayOf W.Text = L.byText
 wayOf W.Number = L.byNumber
 wayOf W.Guess = L.byGuess
-
-abbrev pub lettered : Lettered → Answer K.Kind
-lettered (T.Kind k) = Gives (kindOf k)
-lettered T.None = Refused unreadableLine
 
 abbrev pub marked : Marked → Answer L.Way
 marked (M.Way w) = Gives (wayOf w)

@@ -3,35 +3,17 @@ ghost use mathlib.Core.Path.{_≡_};
 ghost use mathlib.Core.Bool.{true};
 ghost use Prim.Native.Nat.{_≤_};
 ghost use lib.ListN.{length};
-ghost use Rattle.rules.specs.Listing.{kindOfLetter, wayOfLetter, hasWay, readLine};
+ghost use Rattle.rules.specs.Listing.{wayOfLetter, hasWay, readLine};
 ghost use Rattle.expanded.specs.Views.{kindOf};
-ghost use Rattle.request.specs.Views.{wayOf, lettered, marked, asks, hasWayIn, restAt};
+ghost use Rattle.request.specs.Views.{wayOf, marked, asks, hasWayIn, restAt};
 use crate::Request;
 use crate::Way;
+use codes::Lettered;
 use expanded::Kind;
-
-enum Lettered {
-    Kind(Kind),
-    None,
-}
 
 enum Marked {
     Way(Way),
     None,
-}
-
-fn kind_of_letter(b: u8) -> Lettered
-    ensures { λ r. ⌜ lettered r ≡ kindOfLetter b ⌝ }
-{
-    match b {
-        b'R' => Lettered::Kind(Kind::Raw),
-        b'D' => Lettered::Kind(Kind::Date),
-        b'H' => Lettered::Kind(Kind::Hour),
-        b'U' => Lettered::Kind(Kind::Uniform),
-        b'E' => Lettered::Kind(Kind::Eu5),
-        b'V' => Lettered::Kind(Kind::Vic3),
-        _ => Lettered::None,
-    }
 }
 
 fn way_of_letter(b: u8) -> Marked
@@ -70,7 +52,7 @@ pub fn read_line(s: &[u8]) -> Request
     if s[3] != b' ' {
         return Request::Unreadable;
     }
-    let Lettered::Kind(kind) = kind_of_letter(s[0]) else {
+    let Lettered::Kind(kind) = codes::kind_of_letter(s[0]) else {
         return Request::Unreadable;
     };
     let Marked::Way(way) = way_of_letter(s[2]) else {

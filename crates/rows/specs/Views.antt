@@ -3,13 +3,8 @@ use Prim.Native.Nat.{ℕ}
 use mathlib.Core.List.{List}
 use lib.IntN.{ℤ}
 use lib.ListN.{drop}
-use Rattle.rules.specs.Refusals.{Answer, Gives, Refused, unreadableLine}
-use Rattle.rules.specs.Kinds.{Kind}
 use Rattle.rules.specs.Text.{Read}
-use Rattle.expanded.specs.Views.{kindOf}
 use Rattle.rows.specs.Rows as R
-use Rattle.rows.specs.declared.Lettered.{Lettered}
-use Rattle.rows.specs.declared.Lettered.the-variants as L
 use Rattle.rows.specs.declared.Number.{Number}
 use Rattle.rows.specs.declared.Whole.{Whole}
 
@@ -22,7 +17,3 @@ number s n = record { up = n .up; dn = n .dn; rest = drop (n .next) s }
 
 abbrev pub wholeRead : List ℕ → Whole → Read ℤ
 wholeRead s w = record { value = w .value; rest = drop (w .next) s }
-
-abbrev pub lettered : Lettered → Answer Kind
-lettered (L.Kind k) = Gives (kindOf k)
-lettered L.None = Refused unreadableLine

@@ -3,10 +3,8 @@
 ghost use mathlib.Core.Path.{_≡_};
 ghost use Prim.Native.Nat.{_+_, _<_, _≤_};
 ghost use lib.ListN.{length, drop};
-ghost use Rattle.rules.specs.Listing.{kindOfLetter};
 ghost use Rattle.rows.specs.Rows.{firstByte, afterByte, afterWord, endsRow, noNumber, rowDigits, numbered, startsWithDigit, naturalOf, signedOf, wholeOf, rowLength};
-ghost use Rattle.rows.specs.Views.{number, wholeRead, lettered};
-use expanded::Kind;
+ghost use Rattle.rows.specs.Views.{number, wholeRead};
 
 // A place past the end of every slice.
 pub const NOWHERE: usize = 0xffff_ffff_ffff_ffff;
@@ -22,11 +20,6 @@ pub struct Number {
 pub struct Whole {
     pub value: i32,
     pub next: usize,
-}
-
-pub enum Lettered {
-    Kind(Kind),
-    None,
 }
 
 // The place after the end of the line that goes on at a place; the same place where none does.
@@ -189,20 +182,5 @@ pub fn whole32(s: &[u8], at: usize) -> Whole
     Whole {
         value: 0,
         next: NOWHERE,
-    }
-}
-
-// The kind of a letter.
-pub fn kind_of(letter: u8) -> Lettered
-    ensures { λ r. ⌜ lettered r ≡ kindOfLetter letter ⌝ }
-{
-    match letter {
-        b'R' => Lettered::Kind(Kind::Raw),
-        b'D' => Lettered::Kind(Kind::Date),
-        b'H' => Lettered::Kind(Kind::Hour),
-        b'U' => Lettered::Kind(Kind::Uniform),
-        b'E' => Lettered::Kind(Kind::Eu5),
-        b'V' => Lettered::Kind(Kind::Vic3),
-        _ => Lettered::None,
     }
 }

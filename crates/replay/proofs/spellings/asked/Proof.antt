@@ -5,11 +5,11 @@ use Rattle.replay.proofs.spellings.asked.Statement.{statement}
 use Rattle.replay.proofs.spellings.asked.Tie as tie
 
 returns : tie.Need-returns
-returns c = rw (by-letter, ← (c .before .before .kind-of .ensures), c .enum-told .given .1)
+returns c = rw (by-letter, ← (c .before .before .kind-of-letter .ensures), c .enum-told .given .1)
 
 returns-2 : tie.Need-returns-2
 returns-2 c =
-    rw (c .of-kind .ensures, by-letter, ← (c .before .before .before .before .kind-of .ensures), c .before .before .kind .given .1)
+    rw (c .of-kind .ensures, by-letter, ← (c .before .before .before .before .kind-of-letter .ensures), c .before .before .kind .given .1)
 
 pub asked-spec : {M : Type 1} → statement M
 asked-spec =

@@ -6,11 +6,11 @@ use Rattle.replay.proofs.texts.asked.Tie as tie
 
 returns : tie.Need-returns
 returns c =
-    rw (c .unasked .ensures, by-letter, ← (c .before .before .before .kind-of .ensures), c .before .enum-told .given .1)
+    rw (c .unasked .ensures, by-letter, ← (c .before .before .before .kind-of-letter .ensures), c .before .enum-told .given .1)
 
 returns-2 : tie.Need-returns-2
 returns-2 c =
-    rw (c .of-kind .ensures, by-letter, ← (c .before .before .before .before .kind-of .ensures), c .before .before .kind .given .1)
+    rw (c .of-kind .ensures, by-letter, ← (c .before .before .before .before .kind-of-letter .ensures), c .before .before .kind .given .1)
 
 pub asked-spec : {M : Type 1} → statement M
 asked-spec =

@@ -1,9 +1,9 @@
--- `rows::kind_of` meets its contract: at each letter the definition computes, and at any other byte it refuses. Assumes nothing.
+-- `codes::kind_of_letter` meets its contract: at each letter the definition computes, and at any other byte it refuses. Assumes nothing.
 use mathlib.Core.Path.{sym, ap}
 use borrow.Author.Tests.{ne-eqb}
 use Rattle.rules.specs.Listing.{kindOfLetter}
-use Rattle.rows.proofs.kind_of.Statement.{statement}
-use Rattle.rows.proofs.kind_of.Tie as tie
+use Rattle.codes.proofs.kind_of_letter.Statement.{statement}
+use Rattle.codes.proofs.kind_of_letter.Tie as tie
 
 returns : tie.Need-returns
 unfolding kindOfLetter
@@ -34,6 +34,6 @@ unfolding kindOfLetter
 returns-7 c =
     let n = c .match .rest in rw (ne-eqb _ 82 (n .0 .0 .0 .0 .0 .1), ne-eqb _ 68 (n .0 .0 .0 .0 .1), ne-eqb _ 72 (n .0 .0 .0 .1), ne-eqb _ 85 (n .0 .0 .1), ne-eqb _ 69 (n .0 .1), ne-eqb _ 86 (n .1))
 
-pub kind-of-spec : {M : Type 1} → statement M
-kind-of-spec =
+pub kind-of-letter-spec : {M : Type 1} → statement M
+kind-of-letter-spec =
     tie.close (tie.spec returns returns-2 returns-3 returns-4 returns-5 returns-6 returns-7)

@@ -44,20 +44,32 @@ const FIXED: [(i16, u8, u8); 7] = [
     (32767, 12, 30),
 ];
 
-/// What takes longest comes last.
+/// What takes longest comes last: of E, which has 23 hours, those between the first and the last.
 pub fn run(extent: Extent, report: &mut Report) {
     starts(extent, report);
     for_all_six!(orders(extent, report));
     for_each!(differences(extent, report): Date, Eu5Date, Vic3Date);
-    for_each!(additions(extent, report): Date, Vic3Date, Eu5Date);
+    for_each!(additions(extent, report, "every date", |_| true): Date, Vic3Date);
+    let is_outer = |hour| hour == 0 || hour == 22;
+    additions::<Eu5Date>(extent, report, "every date at hours 0 and 22", is_outer);
+    additions::<Eu5Date>(extent, report, "every date at hours 1 to 21", |hour| {
+        !is_outer(hour)
+    });
 }
 
 fn date<K: Coded>(year: i16, (month, day, hour): (u8, u8, u8)) -> K {
     original::with(Fields::new(year, month, day, hour)).expect("a date of the kind")
 }
 
-fn additions<K: Coded + Counted>(extent: Extent, report: &mut Report) {
-    let (years, days) = (years(extent, QUICK_STEP), days::<K>());
+fn additions<K: Coded + Counted>(
+    extent: Extent,
+    report: &mut Report,
+    dates: &str,
+    has_hour: impl Fn(u8) -> bool,
+) {
+    let years = years(extent, QUICK_STEP);
+    let mut days = days::<K>();
+    days.retain(|&(_, _, hour)| has_hour(hour));
     let (asked, decided) = share_with::<Tally>(years.len() as u64, |part, asked, decided| {
         let year = years[part as usize];
         let asks_panics = K::LETTER == 'D' || asks_panics(year);
@@ -70,10 +82,13 @@ fn additions<K: Coded + Counted>(extent: Extent, report: &mut Report) {
         0 => "additions",
         _ => "additions that give a date, and panics at some years",
     };
-    let name = format!("{}: every date, {which}", K::LETTER);
+    let name = format!("{}: {dates}, {which}", K::LETTER);
     report.row(&name, extent.covers_all(), asked);
     if decided.compared > 0 {
-        let name = format!("{}: additions whose panic is decided by the sum", K::LETTER);
+        let name = format!(
+            "{}: {dates}, additions whose panic is decided by the sum",
+            K::LETTER
+        );
         report.row(&name, Covers::Sample, decided);
     }
 }

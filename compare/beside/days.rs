@@ -49,12 +49,17 @@ pub fn run(extent: Extent, report: &mut Report) {
     starts(extent, report);
     for_all_six!(orders(extent, report));
     for_each!(differences(extent, report): Date, Eu5Date, Vic3Date);
-    for_each!(additions(extent, report, "every date", |_| true): Date, Vic3Date);
+    for_each!(additions(extent, report, Sums::All, "every date", |_| true): Date, Vic3Date);
     let is_outer = |hour| hour == 0 || hour == 22;
-    additions::<Eu5Date>(extent, report, "every date at hours 0 and 22", is_outer);
-    additions::<Eu5Date>(extent, report, "every date at hours 1 to 21", |hour| {
-        !is_outer(hour)
-    });
+    let is_inner = |hour| !is_outer(hour);
+    let (outer, inner) = (
+        "every date at hours 0 and 22",
+        "every date at hours 1 to 21, not landing there",
+    );
+    let landings = "every date at hours 1 to 21, landing on -366 to 1";
+    additions::<Eu5Date>(extent, report, Sums::All, outer, is_outer);
+    additions::<Eu5Date>(extent, report, Sums::Ends, inner, is_inner);
+    additions::<Eu5Date>(extent, report, Sums::Landings, landings, is_inner);
 }
 
 fn date<K: Coded>(year: i16, (month, day, hour): (u8, u8, u8)) -> K {
@@ -64,6 +69,7 @@ fn date<K: Coded>(year: i16, (month, day, hour): (u8, u8, u8)) -> K {
 fn additions<K: Coded + Counted>(
     extent: Extent,
     report: &mut Report,
+    sums: Sums,
     dates: &str,
     has_hour: impl Fn(u8) -> bool,
 ) {
@@ -74,7 +80,7 @@ fn additions<K: Coded + Counted>(
         let year = years[part as usize];
         let asks_panics = K::LETTER == 'D' || asks_panics(year);
         for &day in &days {
-            add_all(date::<K>(year, day), asks_panics, asked, decided);
+            add_all(date::<K>(year, day), sums, asks_panics, asked, decided);
         }
     });
     let decided = decided.into_iter().fold(Tally::default(), Tally::and);
@@ -93,11 +99,36 @@ fn additions<K: Coded + Counted>(
     }
 }
 
+/// Which additions are asked: the steps and the ends of what is a date and of 32 bits, the landings on
+/// each of -366 to 1, or all of these.
+#[derive(Clone, Copy, PartialEq)]
+enum Sums {
+    All,
+    Ends,
+    Landings,
+}
+
+impl Sums {
+    fn has_ends(self) -> bool {
+        self != Sums::Landings
+    }
+
+    fn has_landings(self) -> bool {
+        self != Sums::Ends
+    }
+}
+
 fn asks_panics(year: i16) -> bool {
     year % PANICS_STEP == 0 || year == i16::MIN || year == i16::MAX
 }
 
-fn add_all<K: Coded + Counted>(date: K, asks_panics: bool, asked: &mut Tally, decided: &mut Tally) {
+fn add_all<K: Coded + Counted>(
+    date: K,
+    sums: Sums,
+    asks_panics: bool,
+    asked: &mut Tally,
+    decided: &mut Tally,
+) {
     // The days from 0.1.1, as the original counts them.
     let number = i64::from(
         K::make(Fields::new(0, 1, 1, 0))
@@ -115,11 +146,18 @@ fn add_all<K: Coded + Counted>(date: K, asks_panics: bool, asked: &mut Tally, de
         };
         add_one(asked, date, days, right);
     };
-    STEPS.into_iter().for_each(&mut add);
-    let reached = SUMS.into_iter().chain(-366..=1).map(|sum| sum - number);
-    reached
-        .filter_map(|days| i32::try_from(days).ok())
-        .for_each(&mut add);
+    let mut reach = |sum: i64| {
+        if let Ok(days) = i32::try_from(sum - number) {
+            add(days);
+        }
+    };
+    if sums.has_landings() {
+        (-366..=1).for_each(&mut reach);
+    }
+    if sums.has_ends() {
+        SUMS.into_iter().for_each(&mut reach);
+        STEPS.into_iter().for_each(&mut add);
+    }
 }
 
 #[inline]

@@ -54,7 +54,7 @@ pub fn run(extent: Extent, report: &mut Report) {
     let is_inner = |hour| !is_outer(hour);
     let (outer, inner) = (
         "every date at hours 0 and 22",
-        "every date at hours 1 to 21, not landing there",
+        "every date at hours 1 to 21, but for the landings",
     );
     let landings = "every date at hours 1 to 21, landing on -366 to 1";
     additions::<Eu5Date>(extent, report, Sums::All, outer, is_outer);

@@ -41,7 +41,7 @@ ofDatesGiven kind first second next = ofDateGiven kind first (λ k f. dateIn k s
 
 -- ---- out of it
 
--- "refusal 0 means that value holds the answer; at 11 value is the place"; "On a refusal other than 11 the other members are 0"
+-- "refusal 0 means that value holds the answer; at 11 value is the place"; at every other refusal it is 0, so that the struct is fixed
 abbrev pub crossed : Answer ℕ → PqAnswer
 crossed (Gives value) = record { refusal = 0; value = value }
 crossed (Refused n) = record { refusal = n; value = 0 }

@@ -11,7 +11,7 @@ use lib.ListN.{length, take, drop}
 use lib.Seq.{take-at, take-all}
 use native.Mathlib.Nat.{le-refl}
 use Rattle.rules.specs.Words.{bytes}
-use Rattle.rules.specs.Refusals.{Gives, _then_, demand, given, notOfKind}
+use Rattle.rules.specs.Refusals.{Answer, Gives, _then_, demand, given, notOfKind}
 use Rattle.rules.specs.Kinds.{Kind, Fields, ofKind, made, unpacked, handedIn}
 use Rattle.rules.specs.Spelling.{digit, putAnswer, putBuffer}
 use Rattle.rules.specs.Listing.{refusedText, lineEnd}
@@ -44,10 +44,13 @@ own-fields k y w e = split (eqb (w % 4) 0) (ofKind k (unpacked y w)) e
     split true false e = absurd (subst T (sym e) tt)
     split false t e = absurd (subst T (sym e) tt)
 
-length-told : (r : Spelled) (n : ℕ) → spelled r ≡ Gives n → lengthOf r ≡ n
-length-told (W.Length m) n e = ap (backOne (λ (x : ℕ). x) 0) e
-length-told W.NotOfKind n e = ap (backOne (λ (x : ℕ). x) 0) e
-length-told W.Short n e = ap (backOne (λ (x : ℕ). x) 0) e
+-- the length of what was written, by the view of an answer
+pub length-told : {R : Type 0} (view : R → Answer ℕ) (long : R → ℕ) → ((r : R) → backOne (λ (x : ℕ). x) 0 (view r) ≡ long r)
+    → (r : R) (n : ℕ) → view r ≡ Gives n → long r ≡ n
+length-told view long same r n e = sym (same r) ∙ ap (backOne (λ (x : ℕ). x) 0) e
+
+spelled-length : (r : Spelled) → backOne (λ (x : ℕ). x) 0 (spelled r) ≡ lengthOf r
+spelled-length r = elim r [ W.Length m ↦ refl | W.NotOfKind ↦ refl | W.Short ↦ refl ]
 
 -- what the writer of a text of at most 15 bytes answers then, and what the buffer holds
 pub record Fits (t l₀ : List ℕ) (r : Spelled) (l : List ℕ) : Type 0 where
@@ -63,7 +66,7 @@ fits k y w texts l₀ l r g room short d =
     let s = short (handed-tells k y w (unpacked y w) e .of-kind) in
     let n = length (texts (unpacked y w)) in
     let test = le-leb n (length l₀) (omega arith) in
-    let told = length-told r n (rw (e, test) at (d .0)) in
+    let told = length-told spelled lengthOf spelled-length r n (rw (e, test) at (d .0)) in
     record { answered = (told, omega arith); holds = rw (e, test) at (d .1 .0) }
 
 -- ---- a text that was built in a room of its own, and copied

@@ -1,4 +1,4 @@
-//! The port's times beside those of the original, in one run, as the table of docs/SPEED.md.
+//! The port's times beside those of the original, in one run, a line for each task; and the table of docs/SPEED.md over several runs.
 
 mod bounded;
 mod inputs;
@@ -6,18 +6,14 @@ mod measure;
 #[allow(dead_code)] // the generator uses more of it
 #[path = "../compare/generator/random.rs"]
 mod random;
+mod table;
 mod tasks;
 
 fn main() {
-    println!(
-        "| task | the Rust, ns | the Rust behind C, ns | Pennyquill, ns | / the Rust | / the Rust behind C |"
-    );
-    println!("|---|---:|---:|---:|---:|---:|");
-    tasks::all(&mut |name, times| {
-        let (to_original, to_bounded) = (times.port / times.original, times.port / times.bounded);
-        println!(
-            "| {name} | {:.1} | {:.1} | {:.1} | {to_original:.2} | {to_bounded:.2} |",
-            times.original, times.bounded, times.port
-        );
-    });
+    let files: Vec<String> = std::env::args().skip(1).collect();
+    if files.is_empty() {
+        tasks::all(&mut |name, times| println!("{}", table::row(name, times)));
+    } else {
+        table::print(&files);
+    }
 }

@@ -59,7 +59,8 @@ fn seconds(repeats: usize, ask: &impl Fn()) -> f64 {
     start.elapsed().as_secs_f64()
 }
 
-fn median(mut times: Vec<f64>) -> f64 {
+/// The middle one of some numbers; of an even number of them the upper middle one.
+pub fn median(mut times: Vec<f64>) -> f64 {
     times.sort_by(f64::total_cmp);
     times[times.len() / 2]
 }

@@ -84,13 +84,29 @@ fn numbers_read(show: Show) {
     guess(show, "H", H, &hours, DateHour::from_binary_heuristic);
     guess(show, "E", E, &hours, Eu5Date::from_binary_heuristic);
     guess(show, "V", V, &hours, Vic3Date::from_binary_heuristic);
+    // What a converter asks most: a plain number, which is no date.
     let plain: Vec<i32> = (0..512).map(|number| number * 7 + 1).collect();
+    guess(show, "D, refused", D, &plain, Date::from_binary_heuristic);
     guess(
         show,
-        "D, a small one",
-        D,
+        "H, refused",
+        H,
         &plain,
-        Date::from_binary_heuristic,
+        DateHour::from_binary_heuristic,
+    );
+    guess(
+        show,
+        "E, refused",
+        E,
+        &plain,
+        Eu5Date::from_binary_heuristic,
+    );
+    guess(
+        show,
+        "V, refused",
+        V,
+        &plain,
+        Vic3Date::from_binary_heuristic,
     );
 }
 

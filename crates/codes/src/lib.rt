@@ -77,11 +77,11 @@ pub fn kind_of_code(code: u32) -> Coded
 pub fn twos_complement(year: i16) -> u16
     ensures { λ r. ⌜ r ≡ twosComplement year ⌝ }
 {
-    let halves = sign::halves16(year);
-    if 0 < halves.dn {
-        return (65536 - halves.dn) as u16;
+    if year < 0 {
+        // !year is -year - 1
+        return 65535 - (!year) as u16;
     }
-    halves.up as u16
+    year as u16
 }
 
 pub fn year_of_twos(twos: u16) -> i16

@@ -7,8 +7,6 @@ ghost use Rattle.rules.specs.Calendar.{monthDay, monthLength, dayOfYear};
 ghost use Rattle.rules.specs.Numbers.{straightAt};
 ghost use Rattle.julian.specs.First.{answer, firstDayOf};
 
-mod table;
-
 const LENGTHS: [u8; 13] = [0, 31, 28, 31, 30, 31, 30, 31, 31, 30, 31, 30, 31];
 
 // The length of a month by its number, 1 to 12; 0 of what is no month. Everyone who needs a month's length asks here.
@@ -32,7 +30,7 @@ pub fn month_day_from_julian(day_of_year: u16) -> MonthDay
     requires { ⌜ «day_of_year» < 365 ⌝ }
     ensures { λ r. ⌜ (r .month ≡ monthDay «day_of_year» .month) × (r .day ≡ monthDay «day_of_year» .day) ⌝ }
 {
-    let entry = table::MONTH_DAYS[day_of_year as usize];
+    let entry = day_table::entry(day_of_year);
     MonthDay {
         month: (entry / 100) as u8,
         day: (entry % 100) as u8,

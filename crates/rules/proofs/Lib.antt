@@ -28,3 +28,4 @@ pub mod Pairs
 pub mod Bounds
 pub mod Texts
 pub mod Lines
+pub mod Arms

@@ -8,7 +8,7 @@ use borrow.Author.Tests.{le-leb, lt-leb}
 use Rattle.rules.specs.Refusals.{Refused, notOfKind}
 use Rattle.rules.specs.Calendar.{firstDay, sumFirst, lengths}
 use Rattle.julian.specs.First.{firstDayOf}
-use Rattle.julian.proofs.Arms.{past}
+use Rattle.rules.proofs.Arms.{past}
 use Rattle.julian.proofs.julian_ordinal_day.Statement.{statement}
 use Rattle.julian.proofs.julian_ordinal_day.Tie as tie
 
@@ -35,4 +35,4 @@ julian-ordinal-day-spec =
     (λ c. sym (ap firstDayOf (c .match .keys10)))
     (λ c. sym (ap firstDayOf (c .match .keys11)))
     (λ c. sym (ap firstDayOf (c .match .keys12)))
-    (λ c. sym (outside (c .before .args .month) (past (c .before .args .month) 12 (c .match .rest)))))
+    (λ c. sym (outside (c .before .args .month) (past 1 (c .before .args .month) 12 (c .match .rest)))))

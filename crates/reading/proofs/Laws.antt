@@ -1,13 +1,14 @@
--- A text after its leading number, by the code's tests: over the two naturals of the leading number. Assumes nothing.
+-- A text after its leading number, by the code's tests. Assumes nothing.
 use mathlib.Core.Path.{_≡_, refl, sym, _∙_}
-use mathlib.Core.Bool.{Bool, true, false, _&&_}
+use mathlib.Core.Bool.{Bool, true, false, _&&_, and-false}
 use mathlib.Core.List.{List, [], _∷_}
 use Prim.Native.Nat.{ℕ, _+_, _≤_, _<_}
 use native.Mathlib.Omega.{arith}
-use lib.IntN.{ℤ, pos, subℕ}
+use lib.IntN.{ℤ, pos}
+use lib.Signed.{ltZ, leZ}
 use lib.ListN.{length, drop}
-use Rattle.sign.specs.Halves.{up, dn, Halved}
-use Rattle.sign.proofs.Laws.{ints, as-sub, yes-le, no-le}
+use Rattle.sign.specs.Halves.{up, dn}
+use Rattle.sign.proofs.Laws.{ints, one-side, lt-false, le-by}
 use Rattle.rules.specs.Words.{minus, withinZ, fits16, fits32}
 use Rattle.rules.specs.Refusals.{Answer, Gives, Refused, _then_, demand, notText}
 use Rattle.rules.specs.Kinds.{Kind, Fields, Stored, ofKind, made, settled, store}
@@ -17,27 +18,20 @@ use Rattle.rules.proofs.Rests.{here, past}
 
 -- ---- whether the leading number fits 16, or 32, bits
 
-module _ {y : ℤ} {u d : ℕ} (h : Halved 9223372036854775807 y u d) where
-  pub is-sub : y ≡ subℕ u d
-  is-sub = rw (h .up-is, h .dn-is) at (as-sub y)
+module _ (y : ℤ) (lo hi : ℕ) where
+  pub too-low : ltZ y (minus lo) ≡ true → withinZ (minus lo) (pos hi) y ≡ false
+  too-low e = rw (le-by y (minus lo) e)
 
-  pub fits-both : (lo hi : ℕ) → u ≤ hi → d ≤ lo → withinZ (minus lo) (pos hi) y ≡ true
-  fits-both lo hi a b =
-      rw (
-        yes-le (minus lo) y (simp (ints, h .up-is, h .dn-is) (omega arith)),
-        yes-le y (pos hi) (simp (ints, h .up-is, h .dn-is) (omega arith)),
-      )
+  pub too-high : ltZ (pos hi) y ≡ true → withinZ (minus lo) (pos hi) y ≡ false
+  too-high e = rw (le-by (pos hi) y e, and-false (leZ (minus lo) y))
 
-  pub too-high : (lo hi : ℕ) → hi < u → withinZ (minus lo) (pos hi) y ≡ false
-  too-high lo hi a =
-      let o = h .one in
-      rw (
-        yes-le (minus lo) y (simp (ints, h .up-is, h .dn-is) (omega arith)),
-        no-le y (pos hi) (simp (ints, h .up-is, h .dn-is) (omega arith)),
-      )
+  pub fits-both : ltZ y (minus lo) ≡ false → ltZ (pos hi) y ≡ false → withinZ (minus lo) (pos hi) y ≡ true
+  fits-both a b = rw (le-by y (minus lo) a, le-by (pos hi) y b)
 
-  pub too-low : (lo hi : ℕ) → lo < d → withinZ (minus lo) (pos hi) y ≡ false
-  too-low lo hi a = let o = h .one in rw (no-le (minus lo) y (simp (ints, h .up-is, h .dn-is) (omega arith)))
+  pub in-range : ltZ y (minus lo) ≡ false → ltZ (pos hi) y ≡ false → (up y ≤ hi) × (dn y ≤ lo)
+  in-range a b =
+      let l = simp ints at (lt-false y (minus lo) a) in
+      omega (arith, l, lt-false (pos hi) y b, one-side y)
 
 -- ---- a number text
 

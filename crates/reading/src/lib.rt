@@ -32,16 +32,13 @@ fn number_text(kind: Kind, value: i64) -> Made
     ensures { λ r. ⌜ answer notText r ≡ store (numberText (kindOf kind) value then λ f. settled (kindOf kind) notText f) ⌝ }
 {
     if reads_number_texts(kind) {
-        let h = sign::halves64(value);
-        let u = h.up;
-        let d = h.dn;
-        if 2147483647 < u {
+        if value < -2147483648 {
             return Made::None;
         }
-        if 2147483648 < d {
+        if 2147483647 < value {
             return Made::None;
         }
-        let Numbered::Fields(f) = number::number_fields(sign::int32(u, d)) else {
+        let Numbered::Fields(f) = number::number_fields(sign::narrow32(value)) else {
             return Made::None;
         };
         expanded::settle(kind, f.year, f.month, f.day, f.hour)
@@ -57,16 +54,13 @@ fn dotted_text(kind: Kind, s: &[u8], value: i64, next: usize) -> Made
     let Parts::Fields { month, day, hour } = dotted::dotted_part(s, next) else {
         return Made::None;
     };
-    let h = sign::halves64(value);
-    let u = h.up;
-    let d = h.dn;
-    if 32767 < u {
+    if value < -32768 {
         return Made::None;
     }
-    if 32768 < d {
+    if 32767 < value {
         return Made::None;
     }
-    expanded::settle(kind, sign::int16(u, d), month, day, hour)
+    expanded::settle(kind, sign::narrow16(value), month, day, hour)
 }
 
 // The date of a text whose leading number is `value`, with the rest from `next` on.

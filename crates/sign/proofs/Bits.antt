@@ -7,7 +7,7 @@ use native.Mathlib.Omega.{arith}
 use lib.IntN.{ℤ, pos, negsuc, natAbs, subℕ}
 use lib.Signed.{mag, ltZ, nonNeg}
 use lib.Dec.{T}
-use mir.Syntax.{Width}
+use mir.Syntax.{Width, w64}
 use mir.Val.{toZ, ofZ, bits, hbits, Fits, SFits}
 use mir.ValLaws.{toZ-ofZ, toZ-pos, toZ-neg, pow-bits}
 use borrow.Author.Tests.{ltb-true}
@@ -96,3 +96,12 @@ same-bits w {a} {b} f g e = sym (toZ-ofZ w a f) ∙ ap (toZ w) e ∙ toZ-ofZ w b
 pub less-held : (w : Width) (a b : ℤ) {t : Bool} → mag a < 2 ^ hbits w → mag b < 2 ^ hbits w →
     ltZ (toZ w (ofZ w a)) (toZ w (ofZ w b)) ≡ t → ltZ a b ≡ t
 less-held w a b p q e = rw (held w {z = a} p, held w {z = b} q) at e
+
+-- ---- a number of 64 bits that fits fewer is the same number there
+
+module _ (w : Width) (x : ℤ) (f : SFits w64 x) (p : up x < 2 ^ hbits w) (q : dn x ≤ 2 ^ hbits w) where
+  pub narrow-fits : SFits w (toZ w64 (ofZ w64 x))
+  narrow-fits = rw (toZ-ofZ w64 x f) (fits-from w x p q)
+
+  pub narrow-same : toZ w (ofZ w (toZ w64 (ofZ w64 x))) ≡ x
+  narrow-same = rw (toZ-ofZ w64 x f) (toZ-ofZ w x (fits-from w x p q))

@@ -2,7 +2,7 @@
 ghost use mathlib.Core.Path.{_≡_};
 ghost use Prim.Native.Nat.{_+_, _≤_};
 ghost use lib.IntN.{subℕ};
-ghost use Rattle.sign.specs.Halves.{Halved};
+ghost use Rattle.sign.specs.Halves.{up, dn, Halved};
 
 // A number as two naturals, of which one is 0: it is up - dn. Sums and products of two 32-bit numbers stay in 64 bits.
 pub struct Halves {
@@ -93,4 +93,20 @@ pub fn int64(u: u64, d: u64) -> i64
     } else {
         (u - d) as i64
     }
+}
+
+// The same number in 16 bits, where it fits.
+pub fn narrow16(x: i64) -> i16
+    requires { ⌜ (up x ≤ 32767) × (dn x ≤ 32768) ⌝ }
+    ensures { λ r. ⌜ r ≡ x ⌝ }
+{
+    x as i16
+}
+
+// The same number in 32 bits, where it fits.
+pub fn narrow32(x: i64) -> i32
+    requires { ⌜ (up x ≤ 2147483647) × (dn x ≤ 2147483648) ⌝ }
+    ensures { λ r. ⌜ r ≡ x ⌝ }
+{
+    x as i32
 }

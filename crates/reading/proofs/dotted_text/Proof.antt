@@ -1,36 +1,49 @@
--- `reading::dotted_text` meets its contract. Assumes nothing.
+-- `reading::dotted_text` meets its contract: the parts, then the year's two tests. Assumes nothing.
 use borrow.Author.Needs.{needs}
-use native.Mathlib.Omega.{arith}
 use mathlib.Core.Path.{_≡_, sym, ap, _∙_}
-use mir.Syntax.{w16, w32}
+use mir.Syntax.{w16}
 use mir.Facts.{toZ-ofZ}
-use Rattle.sign.specs.Halves.{Halved}
 use Rattle.sign.proofs.Bits.{held}
 use Rattle.rules.specs.Refusals.{notText}
 use Rattle.expanded.specs.Views.{kindOf}
 use Rattle.dotted.specs.Views.{parts}
-use Rattle.reading.proofs.Laws.{is-sub, too-high, too-low, dotted-none, dotted-out, dotted-some}
+use Rattle.reading.proofs.Laws.{too-low, too-high, in-range, dotted-none, dotted-out, dotted-some}
 use Rattle.reading.proofs.dotted_text.Statement.{statement}
 use Rattle.reading.proofs.dotted_text.Tie as tie
 
-got : (c : tie.After-halves64) → Halved 9223372036854775807 (c .before .before .before .before .before .before .args .value) (c .halves64 .result .up) (c .halves64 .result .dn)
-got c = rw (toZ-ofZ (c .before .before .before .before .before .before .fits .value)) at (c .halves64 .ensures)
-
 returns : tie.Need-returns
 returns c =
-    rw (dotted-none (kindOf (c .before .before .before .before .args .kind)) (c .before .before .before .before .args .value) _ (sym (c .before .before .dotted-part .ensures (c .before .before .before .before .args .value)) ∙ ap (parts (c .before .before .before .before .args .value)) (c .enum-told .given .1)))
+    let a = c .before .before .before .before .args in
+    rw (dotted-none (kindOf (a .kind)) (a .value) _ (sym (c .before .before .dotted-part .ensures (a .value)) ∙ ap (parts (a .value)) (c .enum-told .given .1)))
 
 returns-2 : tie.Need-returns-2
 returns-2 c =
-    rw (dotted-out (kindOf (c .before .before .before .before .before .before .before .args .kind)) (c .before .before .before .before .before .before .before .args .value) _ _ _ _ (sym (c .before .before .before .before .before .dotted-part .ensures (c .before .before .before .before .before .before .before .args .value)) ∙ ap (parts (c .before .before .before .before .before .before .before .args .value)) (c .before .before .before .month .given .1)) (too-high (got (c .before)) 32768 32767 (c .if1 .taken)))
+    let p = c .before .before in
+    let s = p .before .before .before .before in
+    let a = s .args in
+    rw (dotted-out (kindOf (a .kind)) (a .value) _ _ _ _ (sym (p .before .before .dotted-part .ensures (a .value)) ∙ ap (parts (a .value)) (p .month .given .1)) (too-low (a .value) 32768 32767 (rw (toZ-ofZ (s .fits .value)) at (c .if1 .taken))))
 
 returns-3 : tie.Need-returns-3
 returns-3 c =
-    rw (dotted-out (kindOf (c .before .before .before .before .before .before .before .before .args .kind)) (c .before .before .before .before .before .before .before .before .args .value) _ _ _ _ (sym (c .before .before .before .before .before .before .dotted-part .ensures (c .before .before .before .before .before .before .before .before .args .value)) ∙ ap (parts (c .before .before .before .before .before .before .before .before .args .value)) (c .before .before .before .before .month .given .1)) (too-low (got (c .before .before)) 32768 32767 (c .if2 .taken)))
+    let p = c .before .before .before in
+    let s = p .before .before .before .before in
+    let a = s .args in
+    rw (dotted-out (kindOf (a .kind)) (a .value) _ _ _ _ (sym (p .before .before .dotted-part .ensures (a .value)) ∙ ap (parts (a .value)) (p .month .given .1)) (too-high (a .value) 32768 32767 (rw (toZ-ofZ (s .fits .value)) at (c .if2 .taken))))
+
+narrow16-requires : tie.Need-narrow16-requires
+narrow16-requires c κs =
+    let s = c .before .before .before .before .before .before .before in
+    let e = toZ-ofZ (s .fits .value) in
+    rw e (in-range (s .args .value) 32768 32767 (rw e at (c .before .if1 .left)) (rw e at (c .if2 .left)))
 
 returns-4 : tie.Need-returns-4
 returns-4 c =
-    rw (dotted-some (kindOf (c .before .before .before .before .before .before .before .before .before .before .args .kind)) (c .before .before .before .before .before .before .before .before .before .before .args .value) _ _ _ _ (sym (c .before .before .before .before .before .before .before .before .dotted-part .ensures (c .before .before .before .before .before .before .before .before .before .before .args .value)) ∙ ap (parts (c .before .before .before .before .before .before .before .before .before .before .args .value)) (c .before .before .before .before .before .before .month .given .1))) (rw (held w16 {z = c .before .int16 .result} (c .before .int16 .ok) ∙ c .before .int16 .ensures ∙ sym (is-sub (got (c .before .before .before .before)))) at (c .settle .ensures notText))
+    let n = c .before in
+    let p = n .before .before .before .before in
+    let s = p .before .before .before .before in
+    let a = s .args in
+    let year : _ ≡ a .value = held w16 {z = n .narrow16 .result} (n .narrow16 .ok) ∙ (n .narrow16 .ensures ∙ toZ-ofZ (s .fits .value)) in
+    rw (dotted-some (kindOf (a .kind)) (a .value) _ _ _ _ (sym (p .before .before .dotted-part .ensures (a .value)) ∙ ap (parts (a .value)) (p .month .given .1))) (rw year at (c .settle .ensures notText))
 
 pub dotted-text-spec : {M : Type 1} → statement M
 dotted-text-spec =
@@ -40,9 +53,8 @@ dotted-text-spec =
     (λ c. search needs)
     (λ c. search needs)
     returns
-    (λ c κs. search needs)
     returns-2
     returns-3
-    (λ c κs. search needs)
+    narrow16-requires
     (λ c κs. search needs)
     returns-4)

@@ -3,7 +3,7 @@ use mathlib.Core.Path.{_≡_, refl, sym, ap, _∙_}
 use mathlib.Core.Bool.{Bool, true, false, _&&_, and-false}
 use Prim.Native.Nat.{ℕ, _+_, _*_, _/_, _%_, _≤_, _<_}
 use native.Mathlib.Omega.{arith}
-use borrow.Author.Tests.{eq-eqb, ne-eqb}
+use borrow.Author.Tests.{le-leb, eq-eqb, ne-eqb}
 use lib.Dec.{eqb}
 use lib.IntN.{ℤ, pos}
 use mir.Syntax.{w16}
@@ -13,7 +13,7 @@ use Rattle.sign.proofs.Laws.{yes-le, one-side}
 use Rattle.sign.proofs.Bits.{Within, fits-tells}
 use Rattle.rules.specs.Words.{minus, fits16}
 use Rattle.rules.specs.Refusals.{Answer, Gives, Refused, _then_, demand, given, notOfKind}
-use Rattle.rules.specs.Kinds.{Kind, Fields, fieldSetHour, fromFields, store, fitsKind, ofKind, made, packed, unpacked, handedIn}
+use Rattle.rules.specs.Kinds.{Kind, Fields, daysIn, hourFits, fieldSetHour, fromFields, store, fitsKind, ofKind, made, packed, unpacked, handedIn}
 use Rattle.rules.specs.Days.{Order, Same, byZ, byN, order}
 use Rattle.rules.proofs.KindLaws.{Fit, fit}
 use Rattle.rules.proofs.OrderLaws.{day-small, hour-small}
@@ -32,6 +32,11 @@ unfolding ofKind
 small k m d h e =
     let f : Fields = record { year = pos 0; month = m; day = d; hour = h } in
     (fit k f e .month-high, day-small k f e, hour-small k f e)
+
+-- where month and day are of the kind, the hour decides
+pub fits-day : (k : Kind) (m d h : ℕ) {t : Bool} → (1 ≤ m) × (m ≤ 12) × (1 ≤ d) × (d ≤ daysIn k m) → hourFits k h ≡ t → fitsKind k m d h ≡ t
+unfolding fitsKind
+fits-day k m d h p e = rw (le-leb 1 m (p .0), le-leb m 12 (p .1), le-leb 1 d (p .2), le-leb d (daysIn k m) (p .3), e)
 
 -- what the maker gives, by the test
 pub made-is : (k : Kind) (n : ℕ) (f : Fields) {t : Bool} → SFits w16 (f .year) → fitsKind k (f .month) (f .day) (f .hour) ≡ t →

@@ -1,3 +1,3 @@
-pub mod Hours
+pub mod HourLaws
 pub mod Laws
 pub mod Determined

@@ -1,9 +1,10 @@
 // What the six kinds share: the kind, a date's fields, its packed word, and the one maker and the one opener over the kind.
 ghost use mathlib.Core.Path.{_≡_};
-ghost use Prim.Native.Nat.{ℕ};
+ghost use Prim.Native.Nat.{ℕ, _≤_};
 ghost use Rattle.rules.specs.Kinds.{daysIn, hourFits, fitsKind, made, settledHour, settled, handedIn, store};
 ghost use Rattle.rules.specs.Refusals.{Gives, _then_, given};
 ghost use Rattle.rules.specs.Days.{Same, byZ, byN, order};
+ghost use Rattle.expanded.specs.HourBits.{hourBits};
 ghost use Rattle.expanded.specs.Views.{kindOf, answer, opened, ordered};
 
 // R raw, D plain, H hourly, U uniform, E EU5, V Victoria 3.
@@ -50,32 +51,44 @@ pub enum Ordered {
     NotOfKind,
 }
 
-// The greatest day of a month.
+// The greatest day of a month. The month's length is looked up for every kind: the kind then only chooses, which costs no jump.
 fn days_in(kind: Kind, month: u8) -> u8
     ensures { λ r. ⌜ r ≡ daysIn (kindOf kind) month ⌝ }
 {
+    let length = julian::month_length(month);
     match kind {
         Kind::Raw => 31,
-        Kind::Date => julian::month_length(month),
-        Kind::Hour => julian::month_length(month),
+        Kind::Date => length,
+        Kind::Hour => length,
         Kind::Uniform => 30,
-        Kind::Eu5 => julian::month_length(month),
-        Kind::Vic3 => julian::month_length(month),
+        Kind::Eu5 => length,
+        Kind::Vic3 => length,
     }
 }
 
-// The hours of a kind.
+// The hours of a kind as the bits of a word: bit h is 1 where h is one of them.
+fn hours(kind: Kind) -> u32
+    ensures { λ r. ⌜ r ≡ hourBits (kindOf kind) ⌝ }
+{
+    match kind {
+        Kind::Raw => 0x1ff_ffff,
+        Kind::Date => 1,
+        Kind::Hour => 0x1ff_fffe,
+        Kind::Uniform => 1,
+        Kind::Eu5 => 0x7f_ffff,
+        Kind::Vic3 => 0x4_1041,
+    }
+}
+
+// Whether an hour is one of the kind's. The word is looked up: a test for each kind would be a jump that the processor cannot foresee in a
+// book of many kinds.
 fn hour_fits(kind: Kind, hour: u8) -> bool
     ensures { λ r. ⌜ r ≡ hourFits (kindOf kind) hour ⌝ }
 {
-    match kind {
-        Kind::Raw => hour <= 24,
-        Kind::Date => hour == 0,
-        Kind::Hour => 1 <= hour && hour <= 24,
-        Kind::Uniform => hour == 0,
-        Kind::Eu5 => hour <= 22,
-        Kind::Vic3 => hour % 6 == 0 && hour <= 18,
+    if 31 < hour {
+        return false;
     }
+    (hours(kind) >> hour) % 2 == 1
 }
 
 // Whether month, day and hour are those of a date of the kind.
@@ -133,6 +146,20 @@ pub fn settle(kind: Kind, year: i16, month: u8, day: u8, hour: u8) -> Made
     ensures { λ r. ⌜ ((n : ℕ) → answer n r ≡ store (settled (kindOf kind) n (record { year = year; month = month; day = day; hour = hour }))) ⌝ }
 {
     make(kind, year, month, day, settled_hour(kind, hour))
+}
+
+// The same where the month and the day are of the kind: the hour alone is tested.
+pub fn settle_day(kind: Kind, year: i16, month: u8, day: u8, hour: u8) -> Made
+    requires { ⌜ (1 ≤ month) × (month ≤ 12) × (1 ≤ day) × (day ≤ daysIn (kindOf kind) month) ⌝ }
+    ensures { λ r. ⌜ ((n : ℕ) → answer n r ≡ store (settled (kindOf kind) n (record { year = year; month = month; day = day; hour = hour }))) ⌝ }
+{
+    let settled = settled_hour(kind, hour);
+    if hour_fits(kind, settled) {
+        let word = month as u16 * 4096 + day as u16 * 128 + settled as u16 * 4;
+        Made::Date(Packed { year, word })
+    } else {
+        Made::None
+    }
 }
 
 // The fields of a date handed in. Every operation on a date goes through here first.

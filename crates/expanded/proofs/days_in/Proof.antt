@@ -7,15 +7,11 @@ pub days-in-spec : {M : Type 1} → statement M
 days-in-spec =
     tie.close
     (tie.spec
+    (λ c κs. search needs)
+    (λ c. search needs) (λ c. search needs) (λ c. search needs) (λ c. search needs) (λ c. search needs) (λ c. search needs)
     (λ c. search needs)
-    (λ c. search needs) (λ c κs. search needs)
-    (λ c. search needs) (λ c κs. search needs)
+    (λ c. rw (c .enum-told2 .given .1) (c .before .before .month-length .ensures))
+    (λ c. rw (c .enum-told3 .given .1) (c .before .before .month-length .ensures))
     (λ c. search needs)
-    (λ c. search needs) (λ c κs. search needs)
-    (λ c. search needs) (λ c κs. search needs)
-    (λ c. search needs)
-    (λ c. rw (c .before .enum-told2 .given .1) (c .month-length .ensures))
-    (λ c. rw (c .before .enum-told3 .given .1) (c .month-length2 .ensures))
-    (λ c. search needs)
-    (λ c. rw (c .before .enum-told5 .given .1) (c .month-length3 .ensures))
-    (λ c. rw (c .before .enum-told6 .given .1) (c .month-length4 .ensures)))
+    (λ c. rw (c .enum-told5 .given .1) (c .before .before .month-length .ensures))
+    (λ c. rw (c .enum-told6 .given .1) (c .before .before .month-length .ensures)))

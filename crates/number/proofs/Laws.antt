@@ -1,18 +1,21 @@
 -- The fields of a number, over its two naturals; then the full decoder and the guess, by their tests. Assumes nothing.
-use mathlib.Core.Path.{_≡_, refl, _∙_, sym, ap}
+use mathlib.Core.Path.{_≡_, refl, _∙_, sym, ap, subst}
 use mathlib.Core.Bool.{Bool, true, false}
 use Prim.Native.Nat.{ℕ, _+_, _/_, _%_, _≤_, _<_}
 use native.Mathlib.Omega.{arith}
+use lib.Dec.{T}
 use lib.IntN.{ℤ, natAbs, subℕ}
 use mir.Syntax.{w32}
 use mir.Val.{toZ, ofZ, SFits}
 use mir.Facts.{toZ-ofZ}
 use Rattle.sign.specs.Halves.{up, dn, Halved}
-use Rattle.sign.proofs.Laws.{same, ints}
+use Rattle.sign.proofs.Laws.{same, ints, one-side}
 use Rattle.rules.specs.Refusals.{Answer, Gives, Refused, _then_, demand, given, notNumber, notOfKind}
-use Rattle.rules.specs.Calendar.{monthLength, monthDay, dayOfYear}
-use Rattle.rules.specs.Kinds.{Kind, Fields, handedIn, store}
-use Rattle.rules.specs.Numbers.{onDay, hourOf, dayOf, yearOf, numberFields, readsNumbers, decoded, readNumber, guesses, guessed, guessNumber, straightAt, straight, writesNumbers, writtenHour, writeNumber}
+use Rattle.rules.specs.Calendar.{lengths, monthLength, walk, monthDay, dayOfYear}
+use Rattle.rules.specs.Kinds.{Kind, kR, kD, kH, kU, kE, kV, Fields, daysIn, handedIn, store}
+use Rattle.rules.specs.Numbers.{onDay, hourOf, dayOf, yearOf, hasFields, numberFields, readsNumbers, decoded, readNumber, guesses, guessed, guessNumber, straightAt, straight, writesNumbers, writtenHour, writeNumber}
+use Rattle.rules.proofs.ReadBack.{backBy}
+use Rattle.rules.proofs.CalendarLaws.{IsDay, is-day, length-small}
 use Rattle.rules.proofs.KindLaws.{Fit, fit, month-fits}
 use Rattle.rules.proofs.PackLaws.{Handed, handed-tells}
 use Rattle.rules.proofs.NumberBack.{writer}
@@ -40,6 +43,51 @@ module _ (n : ℕ) {s : ℤ} {u d : ℕ} (h : Halved 2147483647 s u d) where
 
       hour : natAbs (hourOf s) ≡ u % 24
       hour = simp (ints, h .up-is, h .dn-is) (omega arith)
+
+  -- below 0 a number that stands is the first hour of its year
+  pub below : {y : ℤ} → 0 < d → Stands u d → y ≡ subℕ 0 (d / 8760 + 5000) →
+      _≡_ {A = Answer Fields} (Gives (record { year = y; month = 1; day = 1; hour = 0 })) (numberFields n s)
+  unfolding monthDay walk lengths
+  below {y} low t y-is = rw none-up at (some {y = y} {a = monthDay (u / 24 % 365) .month} {b = monthDay (u / 24 % 365) .day} t (rw none-up y-is) refl refl)
+    where
+      none-up : u ≡ 0
+      none-up = omega (arith, h .one)
+
+-- ---- a number's fields have a day of the calendar, and so one of each kind that reads numbers
+
+abbrev pub DayOf : Kind → Fields → Type 0
+DayOf k f = (1 ≤ f .month) × (f .month ≤ 12) × (1 ≤ f .day) × (f .day ≤ daysIn k (f .month))
+
+day-of : (k : Kind) (f : Fields) → readsNumbers k ≡ true → IsDay (record { month = f .month; day = f .day }) → DayOf k f
+day-of kR f a i = (i .month-low, i .month-high, i .day-low, omega (arith, length-small (f .month) (i .month-high), i .day-high))
+day-of kD f a i = (i .month-low, i .month-high, i .day-low, i .day-high)
+day-of kH f a i = (i .month-low, i .month-high, i .day-low, i .day-high)
+day-of kU f a i = absurd (subst T (sym a) tt)
+day-of kE f a i = (i .month-low, i .month-high, i .day-low, i .day-high)
+day-of kV f a i = (i .month-low, i .month-high, i .day-low, i .day-high)
+
+pub day-read : (k : Kind) (n : ℕ) (s : ℤ) (f : Fields) → readsNumbers k ≡ true → numberFields n s ≡ Gives f → DayOf k f
+unfolding numberFields
+day-read k n s f a e = by (hasFields s) e
+  where
+    small : natAbs (dayOf s) < 365
+    small = simp ints (omega (arith, one-side s))
+
+    found : Fields
+    found = onDay (yearOf s) (natAbs (dayOf s)) (natAbs (hourOf s))
+
+    by : (t : Bool) → demand t n (Gives found) ≡ Gives f → DayOf k f
+    by true e = subst (DayOf k) (ap (backBy (λ g. g) (λ m. f)) e) (day-of k found a (is-day (natAbs (dayOf s)) small))
+    by false e = absurd (subst T (sym (ap given e)) tt)
+
+-- every kind that guesses reads
+pub guess-reads : (k : Kind) → guesses k ≡ true → readsNumbers k ≡ true
+guess-reads kR e = refl
+guess-reads kD e = refl
+guess-reads kH e = refl
+guess-reads kU e = e
+guess-reads kE e = refl
+guess-reads kV e = refl
 
 -- ---- the full decoder and the guess, by their tests
 

@@ -1,11 +1,10 @@
 // Numbers to dates and back, for every kind: the fields of a number, the full decoder, the narrow guess, and what D and H write.
 ghost use mathlib.Core.Path.{_≡_};
 ghost use mathlib.Core.Bool.{true};
-ghost use Prim.Native.Nat.{ℕ, _<_};
-ghost use Rattle.rules.specs.Words.{eqZ};
+ghost use Prim.Native.Nat.{ℕ, _≤_, _<_};
 ghost use Rattle.rules.specs.Refusals.{_then_, notNumber};
-ghost use Rattle.rules.specs.Kinds.{kD, kH, kE, kV, handedIn, store};
-ghost use Rattle.rules.specs.Numbers.{numberFields, readsNumbers, decodedHour, decoded, readNumber, guesses, guessed, guessNumber, writesNumbers, writtenHour, writeNumber};
+ghost use Rattle.rules.specs.Kinds.{daysIn, handedIn, store};
+ghost use Rattle.rules.specs.Numbers.{numberFields, readsNumbers, decodedHour, decoded, readNumber, guesses, guessNumber, writesNumbers, writtenHour, writeNumber};
 ghost use Rattle.expanded.specs.Views.{kindOf, fieldsOf, answer};
 ghost use Rattle.number.specs.Views.{numbered, hourIn, readAs, guessedAs, writtenAs};
 use expanded::ExpandedRawDate;
@@ -13,6 +12,8 @@ use expanded::Kind;
 use expanded::Made;
 use expanded::Opened;
 use expanded::Packed;
+
+mod narrow;
 
 // The fields of a number, or none.
 pub enum Numbered {
@@ -38,7 +39,14 @@ pub enum Written {
     NotOfKind,
 }
 
-// Hour, day of year and year, each truncated toward zero; a negative hour or day refuses, and so does a year of over 16 bits.
+// The greatest number that has fields, and the least one less its sign.
+const GREATEST: u64 = 330_847_679;
+
+const LEAST_BELOW: u64 = 243_247_680;
+
+// Hour, day of year and year, each truncated toward zero; a negative hour or day refuses, and so does a year of over 16 bits. So a
+// number below 0 is read only at multiples of 8760, as the 1 January of a year before -5000: such a number is rare, and apart from the
+// others none is divided twice.
 pub fn number_fields(s: i32) -> Numbered
     ensures { λ r. ⌜ ((n : ℕ) → numbered n r ≡ numberFields n s) ⌝ }
     ensures { λ r. ⌜ hourIn r < 24 ⌝ }
@@ -46,23 +54,26 @@ pub fn number_fields(s: i32) -> Numbered
     let h = sign::halves32(s);
     let u = h.up;
     let d = h.dn;
-    if 0 < d % 24 {
-        return Numbered::None;
+    if 0 < d {
+        if 0 < d % 8760 {
+            return Numbered::None;
+        }
+        if LEAST_BELOW < d {
+            return Numbered::None;
+        }
+        return Numbered::Fields(ExpandedRawDate {
+            year: sign::int16(0, d / 8760 + 5000),
+            month: 1,
+            day: 1,
+            hour: 0,
+        });
     }
-    if 0 < d / 24 % 365 {
-        return Numbered::None;
-    }
-    let up = u / 8760;
-    let dn = d / 8760 + 5000;
-    if up + 32768 < dn {
-        return Numbered::None;
-    }
-    if dn + 32767 < up {
+    if GREATEST < u {
         return Numbered::None;
     }
     let on = julian::month_day_from_julian((u / 24 % 365) as u16);
     Numbered::Fields(ExpandedRawDate {
-        year: sign::int16(up, dn),
+        year: sign::int16(u / 8760, 5000),
         month: on.month,
         day: on.day,
         hour: (u % 24) as u8,
@@ -84,97 +95,13 @@ fn decoded_hour(kind: Kind, hour: u8) -> u8
     }
 }
 
-// The date of a number's fields, or none of the kind.
+// The date of a number's fields, or none of the kind: their month and day are the calendar's.
 fn decode(kind: Kind, year: i16, month: u8, day: u8, hour: u8) -> Made
     requires { ⌜ hour < 24 ⌝ }
+    requires { ⌜ (1 ≤ month) × (month ≤ 12) × (1 ≤ day) × (day ≤ daysIn (kindOf kind) month) ⌝ }
     ensures { λ r. ⌜ answer notNumber r ≡ store (decoded (kindOf kind) (record { year = year; month = month; day = day; hour = hour })) ⌝ }
 {
-    expanded::settle(kind, year, month, day, decoded_hour(kind, hour))
-}
-
-fn is_year(year: i16, other: i16) -> bool
-    ensures { λ r. ⌜ r ≡ eqZ year other ⌝ }
-{
-    if other < year {
-        return false;
-    }
-    if year < other {
-        return false;
-    }
-    true
-}
-
-// Year above -100, and hour 0.
-fn guess_date(year: i16, month: u8, day: u8, hour: u8) -> bool
-    ensures { λ r. ⌜ r ≡ guessed kD (record { year = year; month = month; day = day; hour = hour }) ⌝ }
-{
-    if -100 < year {
-        return hour == 0;
-    }
-    false
-}
-
-// Year above -100, and an even hour: 23 is odd here, and becomes 22 only after this test.
-fn guess_eu5(year: i16, month: u8, day: u8, hour: u8) -> bool
-    ensures { λ r. ⌜ r ≡ guessed kE (record { year = year; month = month; day = day; hour = hour }) ⌝ }
-{
-    if -100 < year {
-        return hour % 2 == 0;
-    }
-    false
-}
-
-// Year 1800 or more, or 1 January hour 1 of year 1 or -1, which stands for an event that has not occurred yet.
-fn guess_hour(year: i16, month: u8, day: u8, hour: u8) -> bool
-    requires { ⌜ hour < 24 ⌝ }
-    ensures { λ r. ⌜ r ≡ guessed kH (record { year = year; month = month; day = day; hour = hour }) ⌝ }
-{
-    if 1800 <= year {
-        return true;
-    }
-    if month == 1 {
-        if day == 1 {
-            if hour + 1 == 1 {
-                if is_year(year, 1) {
-                    return true;
-                }
-                return is_year(year, -1);
-            }
-        }
-    }
-    false
-}
-
-// Year above 1700, or 1.1.1 with hour 0.
-fn guess_vic3(year: i16, month: u8, day: u8, hour: u8) -> bool
-    ensures { λ r. ⌜ r ≡ guessed kV (record { year = year; month = month; day = day; hour = hour }) ⌝ }
-{
-    if 1700 < year {
-        return true;
-    }
-    if month == 1 {
-        if day == 1 {
-            if hour == 0 {
-                return is_year(year, 1);
-            }
-        }
-    }
-    false
-}
-
-// What the kind's guess needs of a number's fields.
-fn passes_guess(kind: Kind, year: i16, month: u8, day: u8, hour: u8) -> bool
-    requires { ⌜ hour < 24 ⌝ }
-    ensures { λ r. ⌜ r ≡ guessed (kindOf kind) (record { year = year; month = month; day = day; hour = hour }) ⌝ }
-{
-    match kind {
-        Kind::Raw => false,
-        Kind::Date => guess_date(year, month, day, hour),
-        Kind::Hour => guess_hour(year, month, day, hour),
-        Kind::Uniform => false,
-        Kind::Eu5 => guess_eu5(year, month, day, hour),
-        Kind::Vic3 => guess_vic3(year, month, day, hour),
-    }
+    expanded::settle_day(kind, year, month, day, decoded_hour(kind, hour))
 }
 
 // U reads no number outside text.
@@ -205,8 +132,8 @@ pub fn has_guess(kind: Kind) -> bool
     }
 }
 
-// The full decoder: for a field that is declared as a date. U has none.
-pub fn from_binary(kind: Kind, s: i32) -> Read
+// The full decoder, over the kind.
+fn read_as(kind: Kind, s: i32) -> Read
     requires { ⌜ readsNumbers (kindOf kind) ≡ true ⌝ }
     ensures { λ r. ⌜ readAs r ≡ store (readNumber (kindOf kind) s) ⌝ }
 {
@@ -220,15 +147,31 @@ pub fn from_binary(kind: Kind, s: i32) -> Read
     }
 }
 
-// The narrow guess: for a number that no one declared. R and U have none.
-pub fn from_binary_heuristic(kind: Kind, s: i32) -> Guess
+// The full decoder: for a field that is declared as a date. U has none. In each arm the kind is known when the code is compiled, so that
+// nothing is left of the tests that are over the kind.
+pub fn from_binary(kind: Kind, s: i32) -> Read
+    requires { ⌜ readsNumbers (kindOf kind) ≡ true ⌝ }
+    ensures { λ r. ⌜ readAs r ≡ store (readNumber (kindOf kind) s) ⌝ }
+{
+    match kind {
+        Kind::Raw => read_as(Kind::Raw, s),
+        Kind::Date => read_as(Kind::Date, s),
+        Kind::Hour => read_as(Kind::Hour, s),
+        Kind::Uniform => Read::NotNumber,
+        Kind::Eu5 => read_as(Kind::Eu5, s),
+        Kind::Vic3 => read_as(Kind::Vic3, s),
+    }
+}
+
+// The guess by a number's fields.
+fn guess_by_fields(kind: Kind, s: i32) -> Guess
     requires { ⌜ guesses (kindOf kind) ≡ true ⌝ }
     ensures { λ r. ⌜ guessedAs r ≡ store (guessNumber (kindOf kind) s) ⌝ }
 {
     let Numbered::Fields(f) = number_fields(s) else {
         return Guess::NotNumber;
     };
-    if passes_guess(kind, f.year, f.month, f.day, f.hour) {
+    if narrow::passes_guess(kind, f.year, f.month, f.day, f.hour) {
         let made = decode(kind, f.year, f.month, f.day, f.hour);
         match made {
             Made::Date(date) => Guess::Date(date),
@@ -236,6 +179,36 @@ pub fn from_binary_heuristic(kind: Kind, s: i32) -> Guess
         }
     } else {
         Guess::NotNumber
+    }
+}
+
+// The guess, over the kind.
+fn guess_as(kind: Kind, s: i32) -> Guess
+    requires { ⌜ guesses (kindOf kind) ≡ true ⌝ }
+    ensures { λ r. ⌜ guessedAs r ≡ store (guessNumber (kindOf kind) s) ⌝ }
+{
+    if narrow::may_pass(kind, s) {
+        guess_by_fields(kind, s)
+    } else {
+        Guess::NotNumber
+    }
+}
+
+// The narrow guess: for a number that no one declared. R and U have none. Kind by kind, as the full decoder.
+pub fn from_binary_heuristic(kind: Kind, s: i32) -> Guess
+    requires { ⌜ guesses (kindOf kind) ≡ true ⌝ }
+    ensures { λ r. ⌜ guessedAs r ≡ store (guessNumber (kindOf kind) s) ⌝ }
+{
+    if narrow::is_early(s) {
+        return Guess::NotNumber;
+    }
+    match kind {
+        Kind::Raw => Guess::NotNumber,
+        Kind::Date => guess_as(Kind::Date, s),
+        Kind::Hour => guess_as(Kind::Hour, s),
+        Kind::Uniform => Guess::NotNumber,
+        Kind::Eu5 => guess_as(Kind::Eu5, s),
+        Kind::Vic3 => guess_as(Kind::Vic3, s),
     }
 }
 

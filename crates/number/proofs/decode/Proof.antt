@@ -9,7 +9,7 @@ use Rattle.number.proofs.decode.Tie as tie
 returns : tie.Need-returns
 unfolding decoded
 returns c =
-    rw (toZ-ofZ (c .before .before .fits .year), c .before .decoded-hour .ensures) at (c .settle .ensures notNumber)
+    rw (toZ-ofZ (c .before .before .fits .year), c .before .decoded-hour .ensures) at (c .settle-day .ensures notNumber)
 
 pub decode-spec : {M : Type 1} → statement M
 decode-spec = tie.close (tie.spec (λ c κs. search needs) (λ c κs. search needs) returns)

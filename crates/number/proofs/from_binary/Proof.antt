@@ -1,44 +1,24 @@
--- `number::from_binary` meets its contract: the number's fields, decoded. Assumes nothing.
+-- `number::from_binary` meets its contract, kind by kind. Assumes nothing.
 use borrow.Author.Needs.{needs}
-use native.Mathlib.Omega.{arith}
-use mathlib.Core.Path.{_≡_, sym, ap, _∙_}
-use mir.Syntax.{w16}
+use mathlib.Core.Path.{subst, sym}
+use lib.Dec.{T}
 use mir.Facts.{toZ-ofZ}
-use Rattle.sign.proofs.Bits.{held}
-use Rattle.rules.specs.Refusals.{notNumber}
-use Rattle.rules.specs.Kinds.{store}
-use Rattle.expanded.specs.Views.{kindOf, fieldsOf, answer}
-use Rattle.number.specs.Views.{numbered, hourIn}
-use Rattle.number.proofs.Laws.{read-none, read-some}
 use Rattle.number.proofs.from_binary.Statement.{statement}
 use Rattle.number.proofs.from_binary.Tie as tie
-
-returns : tie.Need-returns
-returns c =
-    rw (read-none (kindOf (c .before .before .before .args .kind)) (c .before .before .before .args .s) (c .before .before .before .pre) (sym (rw (toZ-ofZ (c .before .before .before .fits .s)) at (c .before .before .number-fields .ensures .0 notNumber)) ∙ ap (numbered notNumber) (c .enum-told .given .1)))
-
-decode-requires : tie.Need-decode-requires
-decode-requires c κs =
-    omega (arith, ap hourIn (c .before .before .f .given .1), c .before .before .before .before .number-fields .ensures .1)
-
-returns-2 : tie.Need-returns-2
-returns-2 c =
-    let e = c .before .before .before .before .before .before .f .given .0 .0 in rw (read-some (kindOf (c .before .before .before .before .before .before .before .before .before .args .kind)) (c .before .before .before .before .before .before .before .before .before .args .s) (fieldsOf e) (c .before .before .before .before .before .before .before .before .before .pre) (sym (rw (toZ-ofZ (c .before .before .before .before .before .before .before .before .before .fits .s)) at (c .before .before .before .before .before .before .before .before .number-fields .ensures .0 notNumber)) ∙ ap (numbered notNumber) (c .before .before .before .before .before .before .f .given .1))) (ap (answer notNumber) (sym (c .before .made .given .1)) ∙ (rw (held w16 {z = e .year} (c .before .before .before .before .struct-told .given .0 .1)) at (c .before .before .before .decode .ensures)))
-
-returns-3 : tie.Need-returns-3
-returns-3 c =
-    let e = c .before .before .before .before .before .f .given .0 .0 in rw (read-some (kindOf (c .before .before .before .before .before .before .before .before .args .kind)) (c .before .before .before .before .before .before .before .before .args .s) (fieldsOf e) (c .before .before .before .before .before .before .before .before .pre) (sym (rw (toZ-ofZ (c .before .before .before .before .before .before .before .before .fits .s)) at (c .before .before .before .before .before .before .before .number-fields .ensures .0 notNumber)) ∙ ap (numbered notNumber) (c .before .before .before .before .before .f .given .1))) (ap (answer notNumber) (sym (c .enum-told2 .given .1)) ∙ (rw (held w16 {z = e .year} (c .before .before .before .struct-told .given .0 .1)) at (c .before .before .decode .ensures)))
 
 pub from-binary-spec : {M : Type 1} → statement M
 from-binary-spec =
     tie.close
     (tie.spec
-    (λ c κs. search needs)
+    (λ c. search needs) (λ c κs. search needs)
+    (λ c. search needs) (λ c κs. search needs)
+    (λ c. search needs) (λ c κs. search needs)
     (λ c. search needs)
-    (λ c. search needs)
-    returns
-    decode-requires
-    (λ c. search needs)
-    (λ c. search needs)
-    returns-2
-    returns-3)
+    (λ c. search needs) (λ c κs. search needs)
+    (λ c. search needs) (λ c κs. search needs)
+    (λ c. rw (c .before .enum-told .given .1) (rw (toZ-ofZ (c .before .before .before .fits .s)) at (c .read-as .ensures)))
+    (λ c. rw (c .before .enum-told2 .given .1) (rw (toZ-ofZ (c .before .before .before .fits .s)) at (c .read-as2 .ensures)))
+    (λ c. rw (c .before .enum-told3 .given .1) (rw (toZ-ofZ (c .before .before .before .fits .s)) at (c .read-as3 .ensures)))
+    (λ c. absurd (subst T (sym (rw (c .enum-told4 .given .1) at (c .before .before .pre))) tt))
+    (λ c. rw (c .before .enum-told5 .given .1) (rw (toZ-ofZ (c .before .before .before .fits .s)) at (c .read-as4 .ensures)))
+    (λ c. rw (c .before .enum-told6 .given .1) (rw (toZ-ofZ (c .before .before .before .fits .s)) at (c .read-as5 .ensures))))

@@ -1,10 +1,10 @@
--- `number::guess_hour` meets its contract: the year's test, then 1 January's. Assumes nothing.
+-- `number::narrow::guess_hour` meets its contract: the year's test, then 1 January's. Assumes nothing.
 use borrow.Author.Needs.{needs}
 use mathlib.Core.Path.{sym, _∙_}
 use mir.Facts.{toZ-ofZ}
 use borrow.Author.Tests.{eq-eqb, ne-eqb}
-use Rattle.number.proofs.guess_hour.Statement.{statement}
-use Rattle.number.proofs.guess_hour.Tie as tie
+use Rattle.number.proofs.narrow.guess_hour.Statement.{statement}
+use Rattle.number.proofs.narrow.guess_hour.Tie as tie
 
 returns : tie.Need-returns
 returns c = rw (rw (toZ-ofZ (c .before .fits .year)) at (c .if1 .taken))

@@ -1,8 +1,8 @@
--- `number::passes_guess` meets its contract, kind by kind. Assumes nothing.
+-- `number::narrow::passes_guess` meets its contract, kind by kind. Assumes nothing.
 use borrow.Author.Needs.{needs}
 use mir.Facts.{toZ-ofZ}
-use Rattle.number.proofs.passes_guess.Statement.{statement}
-use Rattle.number.proofs.passes_guess.Tie as tie
+use Rattle.number.proofs.narrow.passes_guess.Statement.{statement}
+use Rattle.number.proofs.narrow.passes_guess.Tie as tie
 
 pub passes-guess-spec : {M : Type 1} → statement M
 passes-guess-spec =

@@ -1,9 +1,9 @@
--- `number::guess_vic3` meets its contract: the year's test, then 1.1.1's. Assumes nothing.
+-- `number::narrow::guess_vic3` meets its contract: the year's test, then 1.1.1's. Assumes nothing.
 use borrow.Author.Needs.{needs}
 use mir.Facts.{toZ-ofZ}
 use borrow.Author.Tests.{eq-eqb, ne-eqb}
-use Rattle.number.proofs.guess_vic3.Statement.{statement}
-use Rattle.number.proofs.guess_vic3.Tie as tie
+use Rattle.number.proofs.narrow.guess_vic3.Statement.{statement}
+use Rattle.number.proofs.narrow.guess_vic3.Tie as tie
 
 returns : tie.Need-returns
 returns c = rw (rw (toZ-ofZ (c .before .fits .year)) at (c .if1 .taken))

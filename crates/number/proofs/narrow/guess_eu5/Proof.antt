@@ -1,7 +1,7 @@
--- `number::guess_eu5` meets its contract: the year's test, then the hour's. Assumes nothing.
+-- `number::narrow::guess_eu5` meets its contract: the year's test, then the hour's. Assumes nothing.
 use mir.Facts.{toZ-ofZ}
-use Rattle.number.proofs.guess_eu5.Statement.{statement}
-use Rattle.number.proofs.guess_eu5.Tie as tie
+use Rattle.number.proofs.narrow.guess_eu5.Statement.{statement}
+use Rattle.number.proofs.narrow.guess_eu5.Tie as tie
 
 returns : tie.Need-returns
 returns c = rw (rw (toZ-ofZ (c .before .fits .year)) at (c .if1 .taken))

@@ -1,8 +1,8 @@
--- `number::is_year` meets its contract: neither is less than the other. Assumes nothing.
+-- `number::narrow::is_year` meets its contract: neither is less than the other. Assumes nothing.
 use mir.Facts.{toZ-ofZ}
 use Rattle.sign.proofs.Laws.{le-by}
-use Rattle.number.proofs.is_year.Statement.{statement}
-use Rattle.number.proofs.is_year.Tie as tie
+use Rattle.number.proofs.narrow.is_year.Statement.{statement}
+use Rattle.number.proofs.narrow.is_year.Tie as tie
 
 returns : tie.Need-returns
 returns c =

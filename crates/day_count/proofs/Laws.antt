@@ -1,7 +1,7 @@
 -- The steps of counting days, over the halves of each number: a day number, the date of one, what a sum's tests decide; and what a
 -- date of a kind that counts days has. Assumes nothing.
-use mathlib.Core.Path.{_≡_, sym, ap, _∙_}
-use mathlib.Core.Bool.{true, false}
+use mathlib.Core.Path.{_≡_, refl, sym, ap, _∙_}
+use mathlib.Core.Bool.{Bool, true, false}
 use Prim.Native.Nat.{ℕ, _+_, _-_, _*_, _/_, _%_, _≤_, _<_}
 use native.Mathlib.Omega.{arith}
 use lib.IntN.{ℤ, pos, natAbs, subℕ, _+ℤ_, _-ℤ_}
@@ -126,6 +126,16 @@ module _ (k : Kind) (y : ℤ) (w : ℕ) (f : Fields) (e : handedIn k y w ≡ Giv
       low-by kU l = omega arith
       low-by kE l = omega arith
       low-by kV l = l
+
+-- ---- a kind that counts no days refuses every date handed in
+
+module _ (k : Kind) (y : ℤ) (w : ℕ) where
+  pub lacking : {A : Type 0} → _≡_ {A = Answer A} (handedIn k y w then λ f. Refused notOfKind) (Refused notOfKind)
+  lacking {A} = by (given (handedIn k y w)) refl
+    where
+      by : (t : Bool) → given (handedIn k y w) ≡ t → _≡_ {A = Answer A} (handedIn k y w then λ f. Refused notOfKind) (Refused notOfKind)
+      by true e = rw (handed-by k y w e)
+      by false e = rw (handed-by k y w e)
 
 -- ---- the start of a day, by what was tested of the date and of its kind
 

@@ -165,11 +165,11 @@ fn moved(date: ExpandedRawDate, days: i32, hour: u8) -> Sum
 pub fn add_days(kind: Kind, date: Packed, days: i32) -> Sum
     ensures { λ r. ⌜ summedAs r ≡ store (handedIn (kindOf kind) (date .year) (date .word) then λ f. addDays (kindOf kind) f days) ⌝ }
 {
-    let opened = expanded::unpack(kind, date);
-    let Opened::Fields(fields) = opened else {
-        return Sum::NotOfKind;
-    };
     if counts_days(kind) {
+        let opened = expanded::unpack(kind, date);
+        let Opened::Fields(fields) = opened else {
+            return Sum::NotOfKind;
+        };
         moved(fields, days, summed_hour(kind, fields.hour))
     } else {
         Sum::NotOfKind
@@ -194,15 +194,15 @@ fn between(first: ExpandedRawDate, second: ExpandedRawDate) -> i32
 pub fn days_until(kind: Kind, first: Packed, second: Packed) -> Days
     ensures { λ r. ⌜ counted r ≡ (handedIn (kindOf kind) (first .year) (first .word) then λ f. handedIn (kindOf kind) (second .year) (second .word) then λ g. difference (kindOf kind) f g) ⌝ }
 {
-    let a = expanded::unpack(kind, first);
-    let Opened::Fields(f) = a else {
-        return Days::NotOfKind;
-    };
-    let b = expanded::unpack(kind, second);
-    let Opened::Fields(g) = b else {
-        return Days::NotOfKind;
-    };
     if counts_days(kind) {
+        let a = expanded::unpack(kind, first);
+        let Opened::Fields(f) = a else {
+            return Days::NotOfKind;
+        };
+        let b = expanded::unpack(kind, second);
+        let Opened::Fields(g) = b else {
+            return Days::NotOfKind;
+        };
         Days::Days(between(f, g))
     } else {
         Days::NotOfKind

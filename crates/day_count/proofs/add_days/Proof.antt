@@ -5,13 +5,13 @@ use Rattle.rules.specs.Refusals.{Gives}
 use Rattle.rules.specs.Kinds.{handedIn}
 use Rattle.rules.specs.Days.{addDays}
 use Rattle.expanded.specs.Views.{kindOf, fieldsOf, opened}
-use Rattle.day_count.proofs.Laws.{on-calendar, hour-low}
+use Rattle.day_count.proofs.Laws.{on-calendar, hour-low, lacking}
 use borrow.Author.Needs.{needs}
 use Rattle.day_count.proofs.add_days.Statement.{statement}
 use Rattle.day_count.proofs.add_days.Tie as tie
 
 -- the fields that were found are those of the date handed in
-handed : (c : tie.After-known-told) → let a = c .before .before .before .before .args in
+handed : (c : tie.After-known-told) → let a = c .before .before .before .before .before .before .args in
     handedIn (kindOf (a .kind)) (a .date .year) (a .date .word) ≡ Gives (fieldsOf (c .before .opened .given .0 .0))
 handed c = sym (c .before .before .before .unpack .ensures) ∙ ap opened (c .before .opened .given .1)
 
@@ -20,28 +20,30 @@ returns c = rw (sym (c .before .before .unpack .ensures) ∙ ap opened (c .enum-
 
 moved-requires : tie.Need-moved-requires
 moved-requires c κs =
-    let f = handed (c .before .before .before) in
-    (on-calendar _ _ _ _ f (sym (c .before .before .counts-days .ensures) ∙ c .before .if1 .taken), rw (c .summed-hour .ensures) (hour-low _ _ _ _ f))
+    let k = c .before in
+    let f = handed k in
+    (on-calendar _ _ _ _ f (sym (k .before .before .before .before .before .counts-days .ensures) ∙ k .before .before .before .before .if1 .taken), rw (c .summed-hour .ensures) (hour-low _ _ _ _ f))
 
 returns-2 : tie.Need-returns-2
 unfolding addDays
 returns-2 c =
-    rw (handed (c .before .before .before .before), sym (c .before .before .before .counts-days .ensures) ∙ c .before .before .if1 .taken)
-    (rw (toZ-ofZ (c .before .before .before .before .before .before .before .before .fits .days), c .before .summed-hour .ensures) at (c .moved .ensures))
+    let k = c .before .before in
+    rw (handed k, sym (k .before .before .before .before .before .counts-days .ensures) ∙ k .before .before .before .before .if1 .taken)
+    (rw (toZ-ofZ (k .before .before .before .before .before .before .fits .days), c .before .summed-hour .ensures) at (c .moved .ensures))
 
 returns-3 : tie.Need-returns-3
 unfolding addDays
-returns-3 c = rw (handed (c .before .before), sym (c .before .counts-days .ensures) ∙ c .if1 .left)
+returns-3 c = rw (sym (c .before .counts-days .ensures) ∙ c .if1 .left, lacking _ _ _)
 
 pub add-days-spec : {M : Type 1} → statement M
 add-days-spec =
     tie.close
     (tie.spec
     (λ c κs. search needs)
+    (λ c κs. search needs)
     (λ c. search needs)
     (λ c. search needs)
     returns
-    (λ c κs. search needs)
     (λ c κs. search needs)
     moved-requires
     returns-2

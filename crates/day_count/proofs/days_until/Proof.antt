@@ -1,24 +1,29 @@
 -- `day_count::days_until` meets its contract: two dates of the kind, where the kind counts days, have a difference. Assumes nothing.
+use mathlib.Core.Bool.{true}
 use mathlib.Core.Path.{_≡_, sym, ap, _∙_}
 use mir.Syntax.{w32}
 use Rattle.sign.proofs.Bits.{held}
 use Rattle.rules.specs.Refusals.{Gives}
 use Rattle.rules.specs.Kinds.{handedIn}
-use Rattle.rules.specs.Days.{difference}
+use Rattle.rules.specs.Days.{countsDays, difference}
 use Rattle.expanded.specs.Views.{kindOf, fieldsOf, opened}
-use Rattle.day_count.proofs.Laws.{on-calendar}
+use Rattle.day_count.proofs.Laws.{on-calendar, lacking}
 use borrow.Author.Needs.{needs}
 use Rattle.day_count.proofs.days_until.Statement.{statement}
 use Rattle.day_count.proofs.days_until.Tie as tie
 
 -- the fields that were found are those of the dates handed in
-first-handed : (c : tie.After-known-told) → let a = c .before .before .before .before .args in
+first-handed : (c : tie.After-known-told) → let a = c .before .before .before .before .before .before .args in
     handedIn (kindOf (a .kind)) (a .first .year) (a .first .word) ≡ Gives (fieldsOf (c .before .a .given .0 .0))
 first-handed c = sym (c .before .before .before .unpack .ensures) ∙ ap opened (c .before .a .given .1)
 
-second-handed : (c : tie.After-known-told2) → let a = c .before .before .before .before .before .before .before .before .args in
+second-handed : (c : tie.After-known-told2) → let a = c .before .before .before .before .before .before .before .before .before .before .args in
     handedIn (kindOf (a .kind)) (a .second .year) (a .second .word) ≡ Gives (fieldsOf (c .before .b .given .0 .0))
 second-handed c = sym (c .before .before .before .unpack2 .ensures) ∙ ap opened (c .before .b .given .1)
+
+counts : (c : tie.After-known-told2) → countsDays (kindOf (c .before .before .before .before .before .before .before .before .before .before .args .kind)) ≡ true
+counts c =
+    let t = c .before .before .before .before .before .before .before .before in sym (t .before .counts-days .ensures) ∙ t .if1 .taken
 
 returns : tie.Need-returns
 returns c = rw (sym (c .before .before .unpack .ensures) ∙ ap opened (c .enum-told .given .1))
@@ -29,27 +34,23 @@ returns-2 c =
 
 between-requires : tie.Need-between-requires
 between-requires c κs =
-    let k = c .before .before in
-    let e = sym (c .before .counts-days .ensures) ∙ c .if1 .taken in
-    (on-calendar _ _ _ _ (first-handed (k .before .before .before .before)) e, on-calendar _ _ _ _ (second-handed k) e)
+    (on-calendar _ _ _ _ (first-handed (c .before .before .before .before)) (counts c), on-calendar _ _ _ _ (second-handed c) (counts c))
 
 returns-3 : tie.Need-returns-3
 unfolding difference
 returns-3 c =
-    let k = c .before .before .before in
-    rw (first-handed (k .before .before .before .before), second-handed k, sym (c .before .before .counts-days .ensures) ∙ c .before .if1 .taken)
-    (ap Gives (held w32 (c .between .ok) ∙ c .between .ensures))
+    let k = c .before in
+    rw (first-handed (k .before .before .before .before), second-handed k, counts k) (ap Gives (held w32 (c .between .ok) ∙ c .between .ensures))
 
 returns-4 : tie.Need-returns-4
 unfolding difference
-returns-4 c =
-    let k = c .before .before in
-    rw (first-handed (k .before .before .before .before), second-handed k, sym (c .before .counts-days .ensures) ∙ c .if1 .left)
+returns-4 c = rw (sym (c .before .counts-days .ensures) ∙ c .if1 .left, lacking _ _ _, lacking _ _ _)
 
 pub days-until-spec : {M : Type 1} → statement M
 days-until-spec =
     tie.close
     (tie.spec
+    (λ c κs. search needs)
     (λ c κs. search needs)
     (λ c. search needs)
     (λ c. search needs)
@@ -58,7 +59,6 @@ days-until-spec =
     (λ c. search needs)
     (λ c. search needs)
     returns-2
-    (λ c κs. search needs)
     between-requires
     returns-3
     returns-4)

@@ -14,17 +14,17 @@ use Rattle.expanded.specs.Views.{bitsOf}
 use Rattle.replay.specs.declared.answers.Told.{Told}
 use Rattle.replay.specs.declared.answers.Told.the-variants as T
 
--- what is told where nothing is refused: a date, a number, or that the kind has no such method
+-- what is told where nothing is refused: a date, a number, or that the kind has no such method to ask
 pub data Value : Type 0 where
   Dated : Stored → Value
   Counted : ℤ → Value
-  NotHad : Value
+  Unasked : Value
 
 abbrev pub toldAs : Told → Answer Value
 toldAs (T.Date d) = Gives (Dated (bitsOf d))
 toldAs (T.Number n) = Gives (Counted n)
 toldAs (T.Refused n) = Refused n
-toldAs T.NotHad = Gives NotHad
+toldAs T.Unasked = Gives Unasked
 
 abbrev pub dated : Answer Stored → Answer Value
 dated a = a then λ d. Gives (Dated d)
@@ -35,7 +35,7 @@ counted a = a then λ n. Gives (Counted n)
 -- the answer of a kind that has the method
 abbrev pub had : Bool → Answer Value → Answer Value
 had true a = a
-had false a = Gives NotHad
+had false a = Gives Unasked
 
 -- ---- from texts, numbers and fields
 

@@ -23,7 +23,7 @@ pub data LeafValue : Type 0 where
   Digits : ℕ → LeafValue
   NoDigits : LeafValue
   InMonth : ℕ → ℕ → LeafValue
-  NotAsked : LeafValue
+  Unasked : LeafValue
   Counted : ℤ → LeafValue
 
 abbrev pub leafTold : LeafTold → Answer LeafValue
@@ -32,7 +32,7 @@ leafTold T.NoLeading = Refused notText
 leafTold (T.Digits value) = Gives (Digits value)
 leafTold T.NoDigits = Gives NoDigits
 leafTold (T.MonthDay month day) = Gives (InMonth month day)
-leafTold T.NotAsked = Gives NotAsked
+leafTold T.Unasked = Gives Unasked
 leafTold (T.Number n) = Gives (Counted n)
 leafTold T.NoMonth = Refused notOfKind
 
@@ -49,7 +49,7 @@ abbrev pub digitsAnswer : ℕ → Answer LeafValue
 digitsAnswer word = digitsGiven (parsed (bytesOf 8 word))
 
 abbrev pub monthDayAnswer : ℕ → Answer LeafValue
-monthDayAnswer day = cond (ltb day 365) (Gives (InMonth (monthDay day .month) (monthDay day .day))) (Gives NotAsked)
+monthDayAnswer day = cond (ltb day 365) (Gives (InMonth (monthDay day .month) (monthDay day .day))) (Gives Unasked)
 
 -- the original counts the day before a month's first from 1
 abbrev pub ordinalAnswer : ℕ → Answer LeafValue

@@ -14,12 +14,12 @@ use raw_date::RawDate;
 use uniform_date::UniformDate;
 use vic3_date::Vic3Date;
 
-// What is told: a date, a number, the number of a refusal, or that the kind has no such method.
+// What is told: a date, a number, the number of a refusal, or that there was nothing to ask.
 pub(crate) enum Told {
     Date(Packed),
     Number(i32),
     Refused(u8),
-    NotHad,
+    Unasked,
 }
 
 pub(crate) fn date(raw: Packed) -> Told
@@ -61,7 +61,7 @@ pub(crate) fn number(kind: Kind, n: i32) -> Told
             };
             date(d.raw)
         }
-        Kind::Uniform => Told::NotHad,
+        Kind::Uniform => Told::Unasked,
         Kind::Eu5 => {
             let eu5_date::Decoded::Date(d) = Eu5Date::from_binary(n) else {
                 return Told::Refused(3);
@@ -81,7 +81,7 @@ pub(crate) fn guess(kind: Kind, n: i32) -> Told
     ensures { λ r. ⌜ toldAs r ≡ guessAnswer (kindOf kind) n ⌝ }
 {
     match kind {
-        Kind::Raw => Told::NotHad,
+        Kind::Raw => Told::Unasked,
         Kind::Date => {
             let date::Guessed::Date(d) = Date::from_binary_heuristic(n) else {
                 return Told::Refused(3);
@@ -94,7 +94,7 @@ pub(crate) fn guess(kind: Kind, n: i32) -> Told
             };
             date(d.raw)
         }
-        Kind::Uniform => Told::NotHad,
+        Kind::Uniform => Told::Unasked,
         Kind::Eu5 => {
             let eu5_date::Guessed::Date(d) = Eu5Date::from_binary_heuristic(n) else {
                 return Told::Refused(3);

@@ -58,10 +58,10 @@ pub(crate) fn sum(kind: Kind, raw: Packed, days: i32) -> Told
     ensures { λ r. ⌜ toldAs r ≡ sumAnswer (kindOf kind) raw days ⌝ }
 {
     match kind {
-        Kind::Raw => Told::NotHad,
+        Kind::Raw => Told::Unasked,
         Kind::Date => date_summed(Date::add_days(Date { raw }, days)),
-        Kind::Hour => Told::NotHad,
-        Kind::Uniform => Told::NotHad,
+        Kind::Hour => Told::Unasked,
+        Kind::Uniform => Told::Unasked,
         Kind::Eu5 => eu5_date_summed(Eu5Date::add_days(Eu5Date { raw }, days)),
         Kind::Vic3 => vic3_date_summed(Vic3Date::add_days(Vic3Date { raw }, days)),
     }
@@ -80,10 +80,10 @@ pub(crate) fn difference(kind: Kind, raw: Packed, other: Packed) -> Told
     ensures { λ r. ⌜ toldAs r ≡ differenceAnswer (kindOf kind) raw other ⌝ }
 {
     match kind {
-        Kind::Raw => Told::NotHad,
+        Kind::Raw => Told::Unasked,
         Kind::Date => difference_told(Date::days_until(Date { raw }, Date { raw: other })),
-        Kind::Hour => Told::NotHad,
-        Kind::Uniform => Told::NotHad,
+        Kind::Hour => Told::Unasked,
+        Kind::Uniform => Told::Unasked,
         Kind::Eu5 => difference_told(Eu5Date::days_until(Eu5Date { raw }, Eu5Date { raw: other })),
         Kind::Vic3 => difference_told(Vic3Date::days_until(
             Vic3Date { raw },
@@ -105,12 +105,12 @@ pub(crate) fn binary(kind: Kind, raw: Packed) -> Told
     ensures { λ r. ⌜ toldAs r ≡ binaryAnswer (kindOf kind) raw ⌝ }
 {
     match kind {
-        Kind::Raw => Told::NotHad,
+        Kind::Raw => Told::Unasked,
         Kind::Date => binary_told(Date::to_binary(Date { raw })),
         Kind::Hour => binary_told(DateHour::to_binary(DateHour { raw })),
-        Kind::Uniform => Told::NotHad,
-        Kind::Eu5 => Told::NotHad,
-        Kind::Vic3 => Told::NotHad,
+        Kind::Uniform => Told::Unasked,
+        Kind::Eu5 => Told::Unasked,
+        Kind::Vic3 => Told::Unasked,
     }
 }
 

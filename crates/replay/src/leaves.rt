@@ -6,14 +6,14 @@ use julian::FirstDay;
 use scalar::Leading;
 use util::Parsed;
 
-// What is told. NotAsked: there is no such day of year.
+// What is told.
 pub(crate) enum LeafTold {
     Leading { value: i64, rest: usize },
     NoLeading,
     Digits(u64),
     NoDigits,
     MonthDay { month: u8, day: u8 },
-    NotAsked,
+    Unasked,
     Number(i32),
     NoMonth,
 }
@@ -51,7 +51,7 @@ pub(crate) fn month_day(day: u16) -> LeafTold
             day: d.day,
         };
     }
-    LeafTold::NotAsked
+    LeafTold::Unasked
 }
 
 // The original's count is one less than ours, since its days start at 1.

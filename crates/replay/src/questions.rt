@@ -1,193 +1,162 @@
-// What a row asks: of a kind, by the mark after the kind's letter, or of a leaf, by its first word.
+// What a row asks, and what is told of it: of a kind, by the mark after the kind's letter, or of a leaf, by its first word. A row that
+// cannot be read is told as one that cannot be asked.
+use crate::answers;
+use crate::answers::Told;
+use crate::days;
+use crate::leaves;
+use crate::leaves::LeafTold;
 use crate::parts;
-use expanded::ExpandedRawDate;
-use expanded::Packed;
+use crate::quoted;
+use expanded::Kind;
 
-// A text is still to be read, from a place of the row.
-pub(crate) enum Question {
-    Text(usize),
-    Number(i32),
-    Guess(i32),
-    Fields(ExpandedRawDate),
-    Sum { date: Packed, days: i32 },
-    Difference { from: Packed, to: Packed },
-    Binary(Packed),
-    Order { from: Packed, to: Packed },
-    Spellings(Packed),
-    Exchange(Packed),
-    Least,
-    Greatest,
-    Unread,
-}
-
-pub(crate) fn read(row: &[u8]) -> Question {
+// What a row with the letter of a kind asks, but for the texts of a date.
+pub(crate) fn of_kind(row: &[u8], kind: Kind) -> Told {
     match rows::byte(row, 2) {
-        b't' => Question::Text(rows::after_word(row, 1, b" t ")),
-        b'b' => number(row),
-        b'g' => guess_or_greatest(row),
-        b'f' => fields(row),
-        b'a' => sum(row),
-        b'd' => difference(row),
-        b'n' => binary(row),
-        b'o' => order(row),
-        b's' => spellings(row),
-        b'x' => exchange(row),
-        b'l' => least(row),
-        _ => Question::Unread,
+        b't' => text(row, kind),
+        b'b' => number(row, kind),
+        b'g' => guess_or_greatest(row, kind),
+        b'f' => fields(row, kind),
+        b'a' => sum(row, kind),
+        b'd' => difference(row, kind),
+        b'n' => binary(row, kind),
+        b'o' => order(row, kind),
+        b'l' => least(row, kind),
+        _ => Told::Unasked,
     }
 }
 
-fn number(row: &[u8]) -> Question {
+fn text(row: &[u8], kind: Kind) -> Told {
+    let mut buffer = [0u8; 64];
+    let quoted = quoted::text(row, rows::after_word(row, 1, b" t "), &mut buffer);
+    let length = quoted.length;
+    if rows::ends(row, quoted.next) {
+        return answers::text(kind, &buffer[..length]);
+    }
+    Told::Unasked
+}
+
+fn number(row: &[u8], kind: Kind) -> Told {
     let n = rows::whole32(row, rows::after_word(row, 1, b" b "));
     if rows::ends(row, n.next) {
-        return Question::Number(n.value);
+        return answers::number(kind, n.value);
     }
-    Question::Unread
+    Told::Unasked
 }
 
-fn guess_or_greatest(row: &[u8]) -> Question {
+fn guess_or_greatest(row: &[u8], kind: Kind) -> Told {
     if rows::ends(row, rows::after_word(row, 1, b" greatest")) {
-        return Question::Greatest;
+        return answers::greatest(kind);
     }
     let n = rows::whole32(row, rows::after_word(row, 1, b" g "));
     if rows::ends(row, n.next) {
-        return Question::Guess(n.value);
+        return answers::guess(kind, n.value);
     }
-    Question::Unread
+    Told::Unasked
 }
 
-fn fields(row: &[u8]) -> Question {
+fn fields(row: &[u8], kind: Kind) -> Told {
     let f = parts::fields(row, rows::after_word(row, 1, b" f "));
     if rows::ends(row, f.next) {
-        let fields = f.fields;
-        return Question::Fields(fields);
+        return answers::fields(kind, f.fields);
     }
-    Question::Unread
+    Told::Unasked
 }
 
-fn sum(row: &[u8]) -> Question {
+fn sum(row: &[u8], kind: Kind) -> Told {
     let from = parts::date(row, rows::after_word(row, 1, b" a "));
     let days = rows::whole32(row, rows::after(row, from.next, b' '));
     if rows::ends(row, days.next) {
-        let date = from.date;
-        let days = days.value;
-        return Question::Sum { date, days };
+        return days::sum(kind, from.date, days.value);
     }
-    Question::Unread
+    Told::Unasked
 }
 
-fn difference(row: &[u8]) -> Question {
+fn difference(row: &[u8], kind: Kind) -> Told {
     let from = parts::date(row, rows::after_word(row, 1, b" d "));
     let to = parts::date(row, rows::after(row, from.next, b' '));
     if rows::ends(row, to.next) {
-        let from = from.date;
-        let to = to.date;
-        return Question::Difference { from, to };
+        return days::difference(kind, from.date, to.date);
     }
-    Question::Unread
+    Told::Unasked
 }
 
-fn binary(row: &[u8]) -> Question {
+fn binary(row: &[u8], kind: Kind) -> Told {
     let from = parts::date(row, rows::after_word(row, 1, b" n "));
     if rows::ends(row, from.next) {
-        let date = from.date;
-        return Question::Binary(date);
+        return days::binary(kind, from.date);
     }
-    Question::Unread
+    Told::Unasked
 }
 
-fn order(row: &[u8]) -> Question {
+fn order(row: &[u8], kind: Kind) -> Told {
     let from = parts::date(row, rows::after_word(row, 1, b" o "));
     let to = parts::date(row, rows::after(row, from.next, b' '));
     if rows::ends(row, to.next) {
-        let from = from.date;
-        let to = to.date;
-        return Question::Order { from, to };
+        return days::order(kind, from.date, to.date);
     }
-    Question::Unread
+    Told::Unasked
 }
 
-fn spellings(row: &[u8]) -> Question {
-    let from = parts::date(row, rows::after_word(row, 1, b" s "));
-    if rows::ends(row, from.next) {
-        let date = from.date;
-        return Question::Spellings(date);
-    }
-    Question::Unread
-}
-
-fn exchange(row: &[u8]) -> Question {
-    let from = parts::date(row, rows::after_word(row, 1, b" x "));
-    if rows::ends(row, from.next) {
-        let date = from.date;
-        return Question::Exchange(date);
-    }
-    Question::Unread
-}
-
-fn least(row: &[u8]) -> Question {
+fn least(row: &[u8], kind: Kind) -> Told {
     if rows::ends(row, rows::after_word(row, 1, b" least")) {
-        return Question::Least;
+        return answers::least(kind);
     }
-    Question::Unread
+    Told::Unasked
 }
 
 // ---- the leaves
 
-pub(crate) enum Leaf {
-    Leading(usize),
-    Digits(u64),
-    MonthDay(u16),
-    Ordinal(u8),
-    Binary { year: i16, day: u16, hour: u8 },
-    Unread,
-}
-
-pub(crate) fn read_leaf(row: &[u8]) -> Leaf {
+pub(crate) fn of_leaf(row: &[u8]) -> LeafTold {
     match rows::byte(row, 0) {
-        b'l' => Leaf::Leading(rows::after_word(row, 0, b"leading ")),
+        b'l' => leading(row),
         b'd' => digits(row),
         b'm' => month_day(row),
         b'o' => ordinal(row),
         b'b' => leaf_binary(row),
-        _ => Leaf::Unread,
+        _ => LeafTold::Unasked,
     }
 }
 
-fn digits(row: &[u8]) -> Leaf {
+fn leading(row: &[u8]) -> LeafTold {
+    let mut buffer = [0u8; 64];
+    let quoted = quoted::text(row, rows::after_word(row, 0, b"leading "), &mut buffer);
+    let length = quoted.length;
+    if rows::ends(row, quoted.next) {
+        return leaves::leading(&buffer[..length]);
+    }
+    LeafTold::Unasked
+}
+
+fn digits(row: &[u8]) -> LeafTold {
     let word = parts::word(row, rows::after_word(row, 0, b"digits "));
     if rows::ends(row, word.next) {
-        return Leaf::Digits(word.value);
+        return leaves::digits(word.value);
     }
-    Leaf::Unread
+    LeafTold::Unasked
 }
 
-fn month_day(row: &[u8]) -> Leaf {
+fn month_day(row: &[u8]) -> LeafTold {
     let day = parts::at_most(row, rows::after_word(row, 0, b"month_day "), 364);
     if rows::ends(row, day.next) {
-        return Leaf::MonthDay(day.up as u16);
+        return leaves::month_day(day.up as u16);
     }
-    Leaf::Unread
+    LeafTold::Unasked
 }
 
-fn ordinal(row: &[u8]) -> Leaf {
+fn ordinal(row: &[u8]) -> LeafTold {
     let month = parts::at_most(row, rows::after_word(row, 0, b"ordinal "), 255);
     if rows::ends(row, month.next) {
-        return Leaf::Ordinal(month.up as u8);
+        return leaves::ordinal(month.up as u8);
     }
-    Leaf::Unread
+    LeafTold::Unasked
 }
 
-fn leaf_binary(row: &[u8]) -> Leaf {
+fn leaf_binary(row: &[u8]) -> LeafTold {
     let year = parts::year(row, rows::after_word(row, 0, b"binary "));
     let day = parts::at_most(row, rows::after(row, year.next, b' '), 364);
     let hour = parts::at_most(row, rows::after(row, day.next, b' '), 255);
     if rows::ends(row, hour.next) {
-        return Leaf::Binary {
-            year: year.value,
-            day: day.up as u16,
-            hour: hour.up as u8,
-        };
+        return leaves::binary(year.value, day.up as u16, hour.up as u8);
     }
-    Leaf::Unread
+    LeafTold::Unasked
 }

@@ -70,7 +70,7 @@ pub(crate) fn tell(row: &[u8], kind: Kind, told: Told) {
         Told::Date(date) => fields(dates::shown(kind, date)),
         Told::Number(n) => signed(sign::halves32(n)),
         Told::Refused(n) => refused(n),
-        Told::NotHad => print(b" not had"),
+        Told::Unasked => print(b" = unread"),
     }
     print(b"\n");
 }
@@ -155,7 +155,7 @@ pub(crate) fn tell_leaf(row: &[u8], told: LeafTold) {
         }
         LeafTold::Number(n) => signed(sign::halves32(n)),
         LeafTold::NoMonth => refused(4),
-        LeafTold::NotAsked => print(b" not asked"),
+        LeafTold::Unasked => print(b" = unread"),
     }
     print(b"\n");
 }

@@ -6,32 +6,50 @@ use mir.Syntax.{w16}
 use mir.Facts.{toZ-ofZ}
 use Rattle.sign.proofs.Bits.{held}
 use Rattle.rules.specs.Refusals.{notNumber}
-use Rattle.rules.specs.Kinds.{store}
+use Rattle.rules.specs.Numbers.{numberFields}
 use Rattle.expanded.specs.Views.{kindOf, fieldsOf, answer}
 use Rattle.number.specs.Views.{numbered, hourIn}
 use Rattle.number.proofs.Laws.{day-read, read-none, read-some}
 use Rattle.number.proofs.read_as.Statement.{statement}
 use Rattle.number.proofs.read_as.Tie as tie
 
+-- what was answered of the number's fields is what it has
+told : (c : tie.After-number-fields) → numbered notNumber (c .number-fields .result) ≡ numberFields notNumber (c .before .args .s)
+told c = rw (toZ-ofZ (c .before .fits .s)) at (c .number-fields .ensures .0 notNumber)
+
 returns : tie.Need-returns
 returns c =
-    rw (read-none (kindOf (c .before .before .before .args .kind)) (c .before .before .before .args .s) (c .before .before .before .pre) (sym (rw (toZ-ofZ (c .before .before .before .fits .s)) at (c .before .before .number-fields .ensures .0 notNumber)) ∙ ap (numbered notNumber) (c .enum-told .given .1)))
+    let n = c .before .before in
+    let a = n .before in
+    rw (read-none (kindOf (a .args .kind)) (a .args .s) (a .pre) (sym (told n) ∙ ap (numbered notNumber) (c .enum-told .given .1)))
 
 decode-requires : tie.Need-decode-requires
 decode-requires c κs =
-    let a = c .before .before .before .before .before in
-    let g = c .before .before .before .before .number-fields .ensures in
-    let e = c .before .before .f .given .1 in
-    let fields = sym (rw (toZ-ofZ (a .fits .s)) at (g .0 notNumber)) ∙ ap (numbered notNumber) e in
-    (omega (arith, ap hourIn e, g .1), day-read (kindOf (a .args .kind)) notNumber (a .args .s) _ (a .pre) fields)
+    let f = c .before .before in
+    let n = f .before .before in
+    let a = n .before in
+    let e = f .f .given .1 in
+    (omega (arith, ap hourIn e, n .number-fields .ensures .1), day-read (kindOf (a .args .kind)) notNumber (a .args .s) _ (a .pre) (sym (told n) ∙ ap (numbered notNumber) e))
 
 returns-2 : tie.Need-returns-2
 returns-2 c =
-    let e = c .before .before .before .before .before .before .f .given .0 .0 in rw (read-some (kindOf (c .before .before .before .before .before .before .before .before .before .args .kind)) (c .before .before .before .before .before .before .before .before .before .args .s) (fieldsOf e) (c .before .before .before .before .before .before .before .before .before .pre) (sym (rw (toZ-ofZ (c .before .before .before .before .before .before .before .before .before .fits .s)) at (c .before .before .before .before .before .before .before .before .number-fields .ensures .0 notNumber)) ∙ ap (numbered notNumber) (c .before .before .before .before .before .before .f .given .1))) (ap (answer notNumber) (sym (c .before .made .given .1)) ∙ (rw (held w16 {z = e .year} (c .before .before .before .before .struct-told .given .0 .1)) at (c .before .before .before .decode .ensures)))
+    let d = c .before .before .before in
+    let f = d .before .before .before in
+    let n = f .before .before in
+    let a = n .before in
+    let e = f .f .given .0 .0 in
+    rw (read-some (kindOf (a .args .kind)) (a .args .s) (fieldsOf e) (a .pre) (sym (told n) ∙ ap (numbered notNumber) (f .f .given .1)))
+    (ap (answer notNumber) (sym (c .before .made .given .1)) ∙ (rw (held w16 {z = e .year} (d .before .struct-told .given .0 .1)) at (d .decode .ensures)))
 
 returns-3 : tie.Need-returns-3
 returns-3 c =
-    let e = c .before .before .before .before .before .f .given .0 .0 in rw (read-some (kindOf (c .before .before .before .before .before .before .before .before .args .kind)) (c .before .before .before .before .before .before .before .before .args .s) (fieldsOf e) (c .before .before .before .before .before .before .before .before .pre) (sym (rw (toZ-ofZ (c .before .before .before .before .before .before .before .before .fits .s)) at (c .before .before .before .before .before .before .before .number-fields .ensures .0 notNumber)) ∙ ap (numbered notNumber) (c .before .before .before .before .before .f .given .1))) (ap (answer notNumber) (sym (c .enum-told2 .given .1)) ∙ (rw (held w16 {z = e .year} (c .before .before .before .struct-told .given .0 .1)) at (c .before .before .decode .ensures)))
+    let d = c .before .before in
+    let f = d .before .before .before in
+    let n = f .before .before in
+    let a = n .before in
+    let e = f .f .given .0 .0 in
+    rw (read-some (kindOf (a .args .kind)) (a .args .s) (fieldsOf e) (a .pre) (sym (told n) ∙ ap (numbered notNumber) (f .f .given .1)))
+    (ap (answer notNumber) (sym (c .enum-told2 .given .1)) ∙ (rw (held w16 {z = e .year} (d .before .struct-told .given .0 .1)) at (d .decode .ensures)))
 
 pub read-as-spec : {M : Type 1} → statement M
 read-as-spec =

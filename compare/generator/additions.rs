@@ -1,6 +1,6 @@
 //! additions.txt: `K a DATE DAYS DATE`, or `refused 5` or `refused 6` for the second date.
 
-use crate::answers::Answers;
+use crate::answers::{Answers, Row};
 use crate::dates::{any_date, landmarks};
 use crate::kinds::{Counted, Fields};
 use crate::panics::message_or;
@@ -84,12 +84,12 @@ fn some_days<K: Counted>(random: &mut Random, date: K) -> i32 {
     days as i32
 }
 
-fn row<K: Counted>(date: K, days: i32) -> String {
+fn row<K: Counted>(date: K, days: i32) -> Row {
     let answer = match message_or(|| date.plus(days)) {
         Ok(sum) => sum.fields().to_string(),
         Err(message) => format!("refused {}", refusal(&message)),
     };
-    format!("{} a {} {days} {answer}", K::LETTER, date.fields())
+    Row::new(format!("{} a {} {days}", K::LETTER, date.fields()), answer)
 }
 
 fn refusal(message: &str) -> u8 {

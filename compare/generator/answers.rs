@@ -1,15 +1,36 @@
-//! The rows of one stored file, and how inputs and answers are written in them.
+//! The rows of one file, each a question and its answer, and how inputs and answers are written in them.
 
 use crate::kinds::Kind;
 use crate::random::Random;
 use std::collections::BTreeSet;
+use std::fmt::Display;
 use std::fs;
 use std::path::Path;
 
+/// A question, a space and its answer. Rows are ordered by their bytes.
+#[derive(PartialEq, Eq, PartialOrd, Ord)]
+pub struct Row {
+    text: String,
+    question_length: usize,
+}
+
+impl Row {
+    pub fn new(question: String, answer: impl Display) -> Self {
+        Row {
+            text: format!("{question} {answer}"),
+            question_length: question.len(),
+        }
+    }
+
+    fn question(&self) -> &str {
+        &self.text[..self.question_length]
+    }
+}
+
 /// Edges come first in the file, then samples; each part is sorted by bytes. No row comes twice.
 pub struct Answers {
-    edges: BTreeSet<String>,
-    samples: BTreeSet<String>,
+    edges: BTreeSet<Row>,
+    samples: BTreeSet<Row>,
     pub random: Random,
 }
 
@@ -22,23 +43,29 @@ impl Answers {
         }
     }
 
-    pub fn edge(&mut self, row: String) {
+    pub fn edge(&mut self, row: Row) {
         self.edges.insert(row);
     }
 
-    pub fn sample(&mut self, row: String) {
+    pub fn sample(&mut self, row: Row) {
         self.samples.insert(row);
     }
 
-    /// Writes the file and gives the number of rows in its two parts.
-    pub fn write(&self, path: &Path) -> (usize, usize) {
-        let samples: Vec<&String> = self.samples.difference(&self.edges).collect();
-        let mut text = String::new();
+    /// Writes the rows to `NAME.txt`, and their questions alone, in the same order, to `NAME.questions`. Gives the
+    /// number of rows in the two parts.
+    pub fn write(&self, folder: &Path, name: &str) -> (usize, usize) {
+        let samples: Vec<&Row> = self.samples.difference(&self.edges).collect();
+        let (mut rows, mut questions) = (String::new(), String::new());
         for row in self.edges.iter().chain(samples.iter().copied()) {
-            text.push_str(row);
-            text.push('\n');
+            rows.push_str(&row.text);
+            rows.push('\n');
+            questions.push_str(row.question());
+            questions.push('\n');
         }
-        fs::write(path, text).expect("the file can be written");
+        for (ending, text) in [("txt", rows), ("questions", questions)] {
+            fs::write(folder.join(format!("{name}.{ending}")), text)
+                .expect("the file can be written");
+        }
         (self.edges.len(), samples.len())
     }
 }

@@ -1,6 +1,6 @@
 //! differences.txt: `K d DATE DATE N`, the days from the first date to the second.
 
-use crate::answers::Answers;
+use crate::answers::{Answers, Row};
 use crate::dates::{any_date, landmarks};
 use crate::kinds::Counted;
 
@@ -24,7 +24,7 @@ fn ask_kind<K: Counted>(answers: &mut Answers) {
     }
 }
 
-fn row<K: Counted>(from: K, to: K) -> String {
-    let days = from.until(to);
-    format!("{} d {} {} {days}", K::LETTER, from.fields(), to.fields())
+fn row<K: Counted>(from: K, to: K) -> Row {
+    let question = format!("{} d {} {}", K::LETTER, from.fields(), to.fields());
+    Row::new(question, from.until(to))
 }

@@ -1,7 +1,7 @@
-//! digits.txt: `WORD VALUE` or `WORD none`, from the original's `fast_digit_parse`. The word has 16
+//! digits.txt: `digits WORD VALUE` or `digits WORD none`, from the original's `fast_digit_parse`. The word has 16
 //! hexadecimal digits; the first digit character of the text is its lowest byte.
 
-use crate::answers::Answers;
+use crate::answers::{Answers, Row};
 use crate::random::Random;
 use jomini::leaves;
 
@@ -38,10 +38,11 @@ pub fn ask(answers: &mut Answers) {
     }
 }
 
-fn row(word: u64) -> String {
+fn row(word: u64) -> Row {
+    let question = format!("digits {word:016x}");
     match leaves::eight_digits(word) {
-        Some(value) => format!("{word:016x} {value}"),
-        None => format!("{word:016x} none"),
+        Some(value) => Row::new(question, value),
+        None => Row::new(question, "none"),
     }
 }
 

@@ -1,6 +1,6 @@
 //! fields.txt: `K f YEAR MONTH DAY HOUR DATE`, or `refused 4` for the date.
 
-use crate::answers::{Answers, date_or_refused};
+use crate::answers::{Answers, Row, date_or_refused};
 use crate::dates::{YEARS, any_date};
 use crate::kinds::{Fields, Kind};
 use crate::panics::message_or;
@@ -64,9 +64,9 @@ fn some_fields<K: Kind>(random: &mut Random) -> Fields {
     fields
 }
 
-fn row<K: Kind>(fields: Fields) -> String {
+fn row<K: Kind>(fields: Fields) -> Row {
     let answer = date_or_refused(make::<K>(fields), 4);
-    format!("{} f {fields} {answer}", K::LETTER)
+    Row::new(format!("{} f {fields}", K::LETTER), answer)
 }
 
 /// The kind's constructor, which panics for E at day 32 or more.

@@ -1,7 +1,7 @@
-//! leading.txt and leading-long.txt: `"TEXT" VALUE REST_LENGTH` or `"TEXT" refused`, from the
-//! original's `to_i64_t`.
+//! leading.txt and leading-long.txt: `leading "TEXT" VALUE REST_LENGTH` or `leading "TEXT" refused`, from
+//! the original's `to_i64_t`.
 
-use crate::answers::{Answers, quoted};
+use crate::answers::{Answers, Row, quoted};
 use crate::random::Random;
 use crate::text_edges::{self, LONGEST};
 use jomini::leaves;
@@ -59,10 +59,11 @@ pub fn ask_long(answers: &mut Answers) {
     }
 }
 
-fn row(text: &[u8]) -> String {
+fn row(text: &[u8]) -> Row {
+    let question = format!("leading {}", quoted(text));
     match leaves::leading_number(text) {
-        Some((value, rest)) => format!("{} {value} {rest}", quoted(text)),
-        None => format!("{} refused", quoted(text)),
+        Some((value, rest)) => Row::new(question, format!("{value} {rest}")),
+        None => Row::new(question, "refused"),
     }
 }
 

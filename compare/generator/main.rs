@@ -31,18 +31,18 @@ use std::path::Path;
 
 /// The files, each with what fills it. A file's place in this list picks its random numbers.
 const FILES: [(&str, fn(&mut Answers)); 12] = [
-    ("texts.txt", texts::ask),
-    ("numbers.txt", numbers::ask),
-    ("fields.txt", fields::ask),
-    ("additions.txt", additions::ask),
-    ("differences.txt", differences::ask),
-    ("binaries.txt", spellings::ask_binaries),
-    ("spellings.txt", spellings::ask),
-    ("orders.txt", orders::ask),
-    ("leading.txt", leading::ask),
-    ("leading-long.txt", leading::ask_long),
-    ("digits.txt", digits::ask),
-    ("julian.txt", julian::ask),
+    ("texts", texts::ask),
+    ("numbers", numbers::ask),
+    ("fields", fields::ask),
+    ("additions", additions::ask),
+    ("differences", differences::ask),
+    ("binaries", spellings::ask_binaries),
+    ("spellings", spellings::ask),
+    ("orders", orders::ask),
+    ("leading", leading::ask),
+    ("leading-long", leading::ask_long),
+    ("digits", digits::ask),
+    ("julian", julian::ask),
 ];
 
 /// The places after those of the list.
@@ -55,8 +55,8 @@ fn main() {
     for (stream, (name, ask)) in (0..).zip(FILES) {
         let mut answers = Answers::new(stream);
         ask(&mut answers);
-        let (edges, samples) = answers.write(&folder.join(name));
-        println!("{name}: {edges} edges, {samples} samples");
+        let (edges, samples) = answers.write(folder, name);
+        println!("{name}.txt: {edges} edges, {samples} samples");
     }
     for (name, bytes) in listings::write(&folder.join("listing"), LISTINGS_STREAM) {
         println!("listing/{name}: {bytes} bytes");

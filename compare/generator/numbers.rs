@@ -1,6 +1,6 @@
 //! numbers.txt: `K b N DATE` (full decoder) and `K g N DATE` (guess), or `refused 3` for the date.
 
-use crate::answers::{Answers, date_or_refused};
+use crate::answers::{Answers, Row, date_or_refused};
 use crate::dates::{YEARS, any_year};
 use crate::kinds::{Decoded, Guessed};
 use crate::random::Random;
@@ -24,18 +24,18 @@ pub fn ask(answers: &mut Answers) {
 fn ask_decoder<K: Decoded>(answers: &mut Answers) {
     ask_way(answers, |number| {
         let answer = date_or_refused(K::decode(number), 3);
-        format!("{} b {number} {answer}", K::LETTER)
+        Row::new(format!("{} b {number}", K::LETTER), answer)
     });
 }
 
 fn ask_guess<K: Guessed>(answers: &mut Answers) {
     ask_way(answers, |number| {
         let answer = date_or_refused(K::guess(number), 3);
-        format!("{} g {number} {answer}", K::LETTER)
+        Row::new(format!("{} g {number}", K::LETTER), answer)
     });
 }
 
-fn ask_way(answers: &mut Answers, row: impl Fn(i32) -> String) {
+fn ask_way(answers: &mut Answers, row: impl Fn(i32) -> Row) {
     for number in edges() {
         answers.edge(row(number));
     }

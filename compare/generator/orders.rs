@@ -1,6 +1,6 @@
 //! orders.txt: `K o DATE DATE N`, N being -1, 0 or 1 where the first is less, equal or greater.
 
-use crate::answers::Answers;
+use crate::answers::{Answers, Row};
 use crate::dates::any_date;
 use crate::kinds::{Fields, Kind};
 use crate::random::Random;
@@ -60,7 +60,7 @@ fn near<K: Kind>(random: &mut Random, one: K) -> K {
     K::with(fields).unwrap_or(one)
 }
 
-fn row<K: Kind>(one: K, other: K) -> String {
-    let order = one.cmp(&other) as i8;
-    format!("{} o {} {} {order}", K::LETTER, one.fields(), other.fields())
+fn row<K: Kind>(one: K, other: K) -> Row {
+    let question = format!("{} o {} {}", K::LETTER, one.fields(), other.fields());
+    Row::new(question, one.cmp(&other) as i8)
 }

@@ -1,7 +1,7 @@
 //! What a date is written as.
 //! spellings.txt: `K s DATE DOTTED ISO`, for E also the ISO date alone. binaries.txt: `K n DATE N`.
 
-use crate::answers::Answers;
+use crate::answers::{Answers, Row};
 use crate::dates::{any_date, edge_dates};
 use crate::kinds::{Kind, Written};
 
@@ -36,15 +36,15 @@ fn ask_numbers<K: Written>(answers: &mut Answers) {
     }
 }
 
-fn text_row<K: Kind>(date: K) -> String {
-    let (dotted, iso) = (date.game_fmt(), date.iso_8601());
-    let row = format!("{} s {} {dotted} {iso}", K::LETTER, date.fields());
+fn text_row<K: Kind>(date: K) -> Row {
+    let question = format!("{} s {}", K::LETTER, date.fields());
+    let texts = format!("{} {}", date.game_fmt(), date.iso_8601());
     match date.third_text() {
-        Some(text) => format!("{row} {text}"),
-        None => row,
+        Some(text) => Row::new(question, format!("{texts} {text}")),
+        None => Row::new(question, texts),
     }
 }
 
-fn number_row<K: Written>(date: K) -> String {
-    format!("{} n {} {}", K::LETTER, date.fields(), date.number())
+fn number_row<K: Written>(date: K) -> Row {
+    Row::new(format!("{} n {}", K::LETTER, date.fields()), date.number())
 }

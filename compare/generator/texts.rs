@@ -1,6 +1,6 @@
 //! texts.txt: `K t "TEXT" DATE`, or `refused 2` for the date.
 
-use crate::answers::{Answers, date_or_refused, quoted};
+use crate::answers::{Answers, Row, date_or_refused, quoted};
 use crate::dates::any_date;
 use crate::kinds::Kind;
 use crate::random::Random;
@@ -22,9 +22,9 @@ fn ask_kind<K: Kind>(answers: &mut Answers) {
     }
 }
 
-fn row<K: Kind>(text: &[u8]) -> String {
+fn row<K: Kind>(text: &[u8]) -> Row {
     let answer = date_or_refused(K::read(text), 2);
-    format!("{} t {} {answer}", K::LETTER, quoted(text))
+    Row::new(format!("{} t {}", K::LETTER, quoted(text)), answer)
 }
 
 /// Mostly a date of the kind, spelled in one of the ways that the readers take.

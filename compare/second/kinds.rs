@@ -88,3 +88,20 @@ impl fmt::Display for Fields {
         write!(f, "{year} {month} {day} {hour}")
     }
 }
+
+/// "Each kind owns its least and greatest date": `K least DATE` and `K greatest DATE`, by "Order: year, then packed
+/// word" over every word of the first year and the last.
+pub fn constants() -> String {
+    let of_year = |kind: Kind, year: i16| {
+        (0..=u16::MAX)
+            .filter_map(move |word| Fields::from_word(year, word).filter(|&date| kind.has(date)))
+    };
+    let mut rows = String::new();
+    for kind in KINDS {
+        let least = of_year(kind, i16::MIN).next().expect("a date");
+        let greatest = of_year(kind, i16::MAX).last().expect("a date");
+        let letter = kind.letter();
+        rows += &format!("{letter} least {least}\n{letter} greatest {greatest}\n");
+    }
+    rows
+}

@@ -1,6 +1,7 @@
 //! A second reading of document 01, for what the original lacks. It shares nothing with the port.
 //!
 //!     second exchanges < spellings.txt     the same dates with their exchange texts
+//!     second constants                     the least and the greatest date of each kind
 //!     second example                       the input of the page's example, after trying all that
 //!                                          the page or the original says of the same
 //!     second listing < input               what `datelist` writes for the input
@@ -20,13 +21,14 @@ fn main() {
     let command = std::env::args().nth(1).unwrap_or_default();
     let output = match command.as_str() {
         "exchanges" => exchange::rows(&input_text()).into_bytes(),
+        "constants" => kinds::constants().into_bytes(),
         "example" => {
             agreement::try_kinds();
             page::example().as_bytes().to_vec()
         }
         "listing" => listing::output(&input()),
         "book" => script::run(&input_text()).into_bytes(),
-        _ => panic!("usage: second exchanges | example | listing | book"),
+        _ => panic!("usage: second exchanges | constants | example | listing | book"),
     };
     io::stdout()
         .write_all(&output)

@@ -71,12 +71,12 @@ fn hours(kind: Kind) -> u32
     ensures { λ r. ⌜ r ≡ hourBits (kindOf kind) ⌝ }
 {
     match kind {
-        Kind::Raw => 0x1ff_ffff,
-        Kind::Date => 1,
-        Kind::Hour => 0x1ff_fffe,
-        Kind::Uniform => 1,
-        Kind::Eu5 => 0x7f_ffff,
-        Kind::Vic3 => 0x4_1041,
+        Kind::Raw => 0x1ff_ffff, // 0 to 24
+        Kind::Date => 1, // 0
+        Kind::Hour => 0x1ff_fffe, // 1 to 24
+        Kind::Uniform => 1, // 0
+        Kind::Eu5 => 0x7f_ffff, // 0 to 22
+        Kind::Vic3 => 0x4_1041, // 0, 6, 12 and 18
     }
 }
 

@@ -1,63 +1,86 @@
--- What a row says after its question: a date or a refusal. Assumes nothing.
+-- What is told of a kind's answer, and what `rules` answers to what is asked. Assumes nothing.
 use Prim.Native.Nat.{ℕ}
-use mathlib.Core.Bool.{Bool, cond, _&&_}
-use mathlib.Core.List.{List, []}
-use lib.Dec.{leb, eqb}
-use lib.IntN.{ℤ, pos, subℕ}
-use Rattle.rules.specs.Words.{byte, bytes}
-use Rattle.rules.specs.Text.{Read}
-use Rattle.rows.specs.Rows.{firstByte, afterWord, afterSpace, Number, naturalOf, signedOf}
+use mathlib.Core.Bool.{Bool, true, false}
+use mathlib.Core.List.{List}
+use lib.IntN.{ℤ, pos}
+use Rattle.rules.specs.Words.{minus}
+use Rattle.rules.specs.Refusals.{Answer, Gives, Refused, _then_}
+use Rattle.rules.specs.Kinds.{Kind, Fields, Stored, fromFields, handedIn, stored, store, least, greatest}
+use Rattle.rules.specs.Numbers.{readsNumbers, readNumber, guesses, guessNumber, writesNumbers, writeNumber}
+use Rattle.rules.specs.Days.{countsDays, addDays, difference, Order, Before, Same, After, order}
+use Rattle.rules.specs.Text.{readText}
+use Rattle.expanded.specs.declared.Packed.{Packed}
+use Rattle.expanded.specs.Views.{bitsOf}
+use Rattle.replay.specs.declared.answers.Told.{Told}
+use Rattle.replay.specs.declared.answers.Told.the-variants as T
 
--- what is said: a date with its stored hour, or a refusal by its number (0: none)
-pub record Told : Type 0 where
-  pub refusal : ℕ
-  pub year : ℤ
-  pub month : ℕ
-  pub day : ℕ
-  pub hour : ℕ
+-- what is told where nothing is refused: a date, a number, or that the kind has no such method to ask
+pub data Value : Type 0 where
+  Dated : Stored → Value
+  Counted : ℤ → Value
+  Unasked : Value
 
-abbrev pub dateTold : ℤ → ℕ → ℕ → ℕ → Told
-dateTold year month day hour = record { refusal = 0; year = year; month = month; day = day; hour = hour }
+abbrev pub toldAs : Told → Answer Value
+toldAs (T.Date d) = Gives (Dated (bitsOf d))
+toldAs (T.Number n) = Gives (Counted n)
+toldAs (T.Refused n) = Refused n
+toldAs T.Unasked = Gives Unasked
 
-abbrev pub refusedTold : ℕ → Told
-refusedTold n = record { refusal = n; year = pos 0; month = 0; day = 0; hour = 0 }
+abbrev pub dated : Answer Stored → Answer Value
+dated a = a then λ d. Gives (Dated d)
 
-abbrev pub noAnswer : Read Told
-noAnswer = record { value = refusedTold 0; rest = [] }
+abbrev pub counted : Answer ℤ → Answer Value
+counted a = a then λ n. Gives (Counted n)
 
--- up - dn is a year of 16 bits
-abbrev pub fitsYear : ℕ → ℕ → Bool
-fitsYear up dn = leb up 32767 && leb dn 32768
+-- the answer of a kind that has the method
+abbrev pub had : Bool → Answer Value → Answer Value
+had true a = a
+had false a = Gives Unasked
 
--- three numbers of a byte each
-abbrev pub fitBytes : ℕ → ℕ → ℕ → Bool
-fitBytes a b c = leb a 255 && (leb b 255 && leb c 255)
+-- ---- from texts, numbers and fields
 
--- the date of four numbers, each in the range of its type, and what follows the last
-abbrev pub dated : Number → Number → Number → Number → Read Told
-dated y m d h =
-    cond (fitsYear (y .up) (y .dn) && fitBytes (m .up) (d .up) (h .up))
-    (record { value = dateTold (subℕ (y .up) (y .dn)) (m .up) (d .up) (h .up); rest = h .rest }) noAnswer
+abbrev pub textAnswer : Kind → List ℕ → Answer Value
+textAnswer k s = dated (store (readText k s))
 
--- the number after a space
-abbrev pub nextOf : Number → Number
-nextOf n = naturalOf (afterSpace (n .rest))
+abbrev pub numberAnswer : Kind → ℤ → Answer Value
+numberAnswer k n = had (readsNumbers k) (dated (store (readNumber k n)))
 
--- `year month day hour`
-unfoldable pub dateOf : List ℕ → Read Told
-dateOf s =
-    let y = signedOf s in
-    let m = nextOf y in
-    let d = nextOf m in
-    dated y m d (nextOf d)
+abbrev pub guessAnswer : Kind → ℤ → Answer Value
+guessAnswer k n = had (guesses k) (dated (store (guessNumber k n)))
 
-abbrev pub refusedBy : Number → Read Told
-refusedBy n = cond (leb (n .up) 255) (record { value = refusedTold (n .up); rest = n .rest }) noAnswer
+abbrev pub fieldsAnswer : Kind → Fields → Answer Value
+fieldsAnswer k f = dated (store (fromFields k f))
 
--- `refused N`
-unfoldable pub refusalOf : List ℕ → Read Told
-refusalOf s = refusedBy (naturalOf (afterWord (bytes "refused ") s))
+-- ---- of dates handed in
 
--- a date or a refusal
-unfoldable pub answerOf : List ℕ → Read Told
-answerOf s = cond (eqb (firstByte s) (byte "r")) (refusalOf s) (dateOf s)
+abbrev pub handed : Kind → Packed → Answer Fields
+handed k d = handedIn k (d .year) (d .word)
+
+abbrev pub sumAnswer : Kind → Packed → ℤ → Answer Value
+sumAnswer k d days = had (countsDays k) (dated (store (handed k d then λ f. addDays k f days)))
+
+abbrev pub differenceAnswer : Kind → Packed → Packed → Answer Value
+differenceAnswer k d e = had (countsDays k) (counted (handed k d then λ f. handed k e then λ g. difference k f g))
+
+abbrev pub binaryAnswer : Kind → Packed → Answer Value
+binaryAnswer k d = had (writesNumbers k) (counted (handed k d then λ f. writeNumber k f))
+
+-- an order as the original's `cmp` has it
+abbrev pub orderNumber : Order → ℤ
+orderNumber Before = minus 1
+orderNumber Same = pos 0
+orderNumber After = pos 1
+
+abbrev pub ordering : Answer Order → Answer Value
+ordering a = a then λ o. Gives (Counted (orderNumber o))
+
+abbrev pub orderAnswer : Kind → Packed → Packed → Answer Value
+orderAnswer k d e = ordering (handed k d then λ f. handed k e then λ g. Gives (order f g))
+
+-- ---- the constants
+
+abbrev pub leastAnswer : Kind → Answer Value
+leastAnswer k = Gives (Dated (stored (least k)))
+
+abbrev pub greatestAnswer : Kind → Answer Value
+greatestAnswer k = Gives (Dated (stored (greatest k)))

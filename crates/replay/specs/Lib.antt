@@ -1,7 +1,2 @@
 pub mod Answers
-pub mod Asked
-pub mod Judged
-pub mod Quoted
-pub mod Verdicts
-pub mod Views
-pub mod Words
+pub mod Leaves

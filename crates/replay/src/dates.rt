@@ -1,75 +1,107 @@
-// A date of each kind as its accessors show it, and the bits of a date that a row names.
+// A date of a kind that is given as a value: its fields by the kind's own accessors, its texts by the kind's own methods.
 ghost use mathlib.Core.Path.{_≡_};
-ghost use Rattle.rules.specs.Refusals.{notOfKind};
-ghost use Rattle.expanded.specs.Views.{kindOf, answer};
-ghost use Rattle.replay.specs.Asked.{shownBits, dateNamed};
-ghost use Rattle.replay.specs.Views.{told};
-use crate::answers;
-use crate::answers::Said;
+ghost use Prim.Native.Nat.{_≤_};
+ghost use lib.ListN.{length};
+ghost use Rattle.rules.specs.Refusals.{Gives, _then_};
+ghost use Rattle.rules.specs.Kinds.{unpacked, handedIn};
+ghost use Rattle.rules.specs.Spelling.{dotted, iso, exchange, putAnswer, putBuffer};
+ghost use Rattle.expanded.specs.Views.{kindOf, fieldsOf};
+ghost use Rattle.formatter.specs.Views.{spelled, lengthOf};
 use date::Date;
 use date_hour::DateHour;
 use eu5_date::Eu5Date;
+use expanded::ExpandedRawDate;
 use expanded::Kind;
-use expanded::Made;
 use expanded::Packed;
+use formatter::Spelled;
 use raw_date::RawDate;
 use uniform_date::UniformDate;
 use vic3_date::Vic3Date;
 
-pub(crate) fn raw(d: RawDate) -> Said
-    ensures { λ r. ⌜ told r ≡ shownBits (d .raw .year) (d .raw .word) ⌝ }
+fn seen(year: i16, month: u8, day: u8, hour: u8) -> ExpandedRawDate
+    ensures { λ r. ⌜ fieldsOf r ≡ record { year = year; month = month; day = day; hour = hour } ⌝ }
 {
-    answers::seen(d.year(), d.month(), d.day(), d.hour())
-}
-
-pub(crate) fn date(d: Date) -> Said
-    ensures { λ r. ⌜ told r ≡ shownBits (d .raw .year) (d .raw .word) ⌝ }
-{
-    answers::seen(d.year(), d.month(), d.day(), d.hour())
-}
-
-pub(crate) fn hour(d: DateHour) -> Said
-    ensures { λ r. ⌜ told r ≡ shownBits (d .raw .year) (d .raw .word) ⌝ }
-{
-    answers::seen(d.year(), d.month(), d.day(), d.hour())
-}
-
-pub(crate) fn uniform(d: UniformDate) -> Said
-    ensures { λ r. ⌜ told r ≡ shownBits (d .raw .year) (d .raw .word) ⌝ }
-{
-    answers::seen(d.year(), d.month(), d.day(), d.hour())
-}
-
-// The stored hour of this kind is its component.
-pub(crate) fn eu5(d: Eu5Date) -> Said
-    ensures { λ r. ⌜ told r ≡ shownBits (d .raw .year) (d .raw .word) ⌝ }
-{
-    answers::seen(d.year(), d.month(), d.day(), d.component())
-}
-
-pub(crate) fn vic3(d: Vic3Date) -> Said
-    ensures { λ r. ⌜ told r ≡ shownBits (d .raw .year) (d .raw .word) ⌝ }
-{
-    answers::seen(d.year(), d.month(), d.day(), d.hour())
-}
-
-// The same for a kind that is given as a value.
-pub(crate) fn of_kind(kind: Kind, raw: Packed) -> Said
-    ensures { λ r. ⌜ told r ≡ shownBits (raw .year) (raw .word) ⌝ }
-{
-    match kind {
-        Kind::Raw => self::raw(RawDate { raw }),
-        Kind::Date => date(Date { raw }),
-        Kind::Hour => hour(DateHour { raw }),
-        Kind::Uniform => uniform(UniformDate { raw }),
-        Kind::Eu5 => eu5(Eu5Date { raw }),
-        Kind::Vic3 => vic3(Vic3Date { raw }),
+    ExpandedRawDate {
+        year,
+        month,
+        day,
+        hour,
     }
 }
 
-// A date of the kind with the fields of a row, its hour included.
-pub(crate) fn packed(kind: Kind, f: Said) -> Made
-    ensures { λ r. ⌜ answer notOfKind r ≡ dateNamed (kindOf kind) (told f) ⌝ }
+// The stored hour of E is its component.
+pub(crate) fn shown(kind: Kind, raw: Packed) -> ExpandedRawDate
+    ensures { λ r. ⌜ fieldsOf r ≡ unpacked (raw .year) (raw .word) ⌝ }
 {
-    expanded::make(kind, f.year, f.month, f.day, f.hour)
+    match kind {
+        Kind::Raw => {
+            let d = RawDate { raw };
+            seen(d.year(), d.month(), d.day(), d.hour())
+        }
+        Kind::Date => {
+            let d = Date { raw };
+            seen(d.year(), d.month(), d.day(), d.hour())
+        }
+        Kind::Hour => {
+            let d = DateHour { raw };
+            seen(d.year(), d.month(), d.day(), d.hour())
+        }
+        Kind::Uniform => {
+            let d = UniformDate { raw };
+            seen(d.year(), d.month(), d.day(), d.hour())
+        }
+        Kind::Eu5 => {
+            let d = Eu5Date { raw };
+            seen(d.year(), d.month(), d.day(), d.component())
+        }
+        Kind::Vic3 => {
+            let d = Vic3Date { raw };
+            seen(d.year(), d.month(), d.day(), d.hour())
+        }
+    }
+}
+
+pub(crate) fn game_fmt(kind: Kind, raw: Packed, out: &mut [u8]) -> Spelled
+    ensures { λ r. ⌜ spelled r ≡ putAnswer (handedIn (kindOf kind) (raw .year) (raw .word) then λ f. Gives (dotted (kindOf kind) f)) (now (out .entry)) ⌝ }
+    ensures { λ _. ⌜ now (out .exit) ≡ putBuffer (handedIn (kindOf kind) (raw .year) (raw .word) then λ f. Gives (dotted (kindOf kind) f)) (now (out .entry)) ⌝ }
+    ensures { λ r. ⌜ lengthOf r ≤ length (now (out .entry)) ⌝ }
+{
+    match kind {
+        Kind::Raw => RawDate::game_fmt(RawDate { raw }, out),
+        Kind::Date => Date::game_fmt(Date { raw }, out),
+        Kind::Hour => DateHour::game_fmt(DateHour { raw }, out),
+        Kind::Uniform => UniformDate::game_fmt(UniformDate { raw }, out),
+        Kind::Eu5 => Eu5Date::game_fmt(Eu5Date { raw }, out),
+        Kind::Vic3 => Vic3Date::game_fmt(Vic3Date { raw }, out),
+    }
+}
+
+pub(crate) fn iso_8601(kind: Kind, raw: Packed, out: &mut [u8]) -> Spelled
+    ensures { λ r. ⌜ spelled r ≡ putAnswer (handedIn (kindOf kind) (raw .year) (raw .word) then λ f. Gives (iso (kindOf kind) f)) (now (out .entry)) ⌝ }
+    ensures { λ _. ⌜ now (out .exit) ≡ putBuffer (handedIn (kindOf kind) (raw .year) (raw .word) then λ f. Gives (iso (kindOf kind) f)) (now (out .entry)) ⌝ }
+    ensures { λ r. ⌜ lengthOf r ≤ length (now (out .entry)) ⌝ }
+{
+    match kind {
+        Kind::Raw => RawDate::iso_8601(RawDate { raw }, out),
+        Kind::Date => Date::iso_8601(Date { raw }, out),
+        Kind::Hour => DateHour::iso_8601(DateHour { raw }, out),
+        Kind::Uniform => UniformDate::iso_8601(UniformDate { raw }, out),
+        Kind::Eu5 => Eu5Date::iso_8601(Eu5Date { raw }, out),
+        Kind::Vic3 => Vic3Date::iso_8601(Vic3Date { raw }, out),
+    }
+}
+
+pub(crate) fn exchange(kind: Kind, raw: Packed, out: &mut [u8]) -> Spelled
+    ensures { λ r. ⌜ spelled r ≡ putAnswer (handedIn (kindOf kind) (raw .year) (raw .word) then λ f. Gives (exchange (kindOf kind) f)) (now (out .entry)) ⌝ }
+    ensures { λ _. ⌜ now (out .exit) ≡ putBuffer (handedIn (kindOf kind) (raw .year) (raw .word) then λ f. Gives (exchange (kindOf kind) f)) (now (out .entry)) ⌝ }
+    ensures { λ r. ⌜ lengthOf r ≤ length (now (out .entry)) ⌝ }
+{
+    match kind {
+        Kind::Raw => RawDate::exchange(RawDate { raw }, out),
+        Kind::Date => Date::exchange(Date { raw }, out),
+        Kind::Hour => DateHour::exchange(DateHour { raw }, out),
+        Kind::Uniform => UniformDate::exchange(UniformDate { raw }, out),
+        Kind::Eu5 => Eu5Date::exchange(Eu5Date { raw }, out),
+        Kind::Vic3 => Vic3Date::exchange(Vic3Date { raw }, out),
+    }
 }

@@ -42,16 +42,13 @@ fn few_digits(t: &[u8]) -> bool
 fn whole32(value: i64) -> Numeral
     ensures { λ r. ⌜ numeralOf r ≡ whole value ⌝ }
 {
-    let h = sign::halves64(value);
-    let u = h.up;
-    let d = h.dn;
-    if 2147483647 < u {
+    if value < -2147483648 {
         return Numeral::None;
     }
-    if 2147483648 < d {
+    if 2147483647 < value {
         return Numeral::None;
     }
-    Numeral::Value(sign::int32(u, d))
+    Numeral::Value(sign::narrow32(value))
 }
 
 // A whole text as a number.

@@ -27,9 +27,6 @@ abbrev pub afterWord : List ℕ → List ℕ → List ℕ
 afterWord [] s = s
 afterWord (b ∷ w) s = afterWord w (afterByte b s)
 
-abbrev pub afterSpace : List ℕ → List ℕ
-afterSpace s = afterByte (byte " ") s
-
 -- whether the rest of a row is its line end and nothing else
 abbrev pub endsRow : List ℕ → Bool
 endsRow [] = false
@@ -85,19 +82,9 @@ whole n = cond (fitsWhole n) (record { value = subℕ (n .up) (n .dn); rest = n 
 unfoldable pub wholeOf : List ℕ → Read ℤ
 wholeOf s = whole (signedOf s)
 
--- ---- the rows of a file
+-- ---- the length of a row
 
 -- how many bytes the first row has, its line end included
 unfoldable pub rowLength : List ℕ → ℕ
 rowLength [] = 0
 rowLength (b ∷ s) = cond (eqb b 10) 1 (suc (rowLength s))
-
--- a byte at the start of the first row
-abbrev pub onto : ℕ → List (List ℕ) → List (List ℕ)
-onto b [] = (b ∷ []) ∷ []
-onto b (row ∷ rows) = (b ∷ row) ∷ rows
-
--- the rows of a file, each with its line end
-unfoldable pub rowsOf : List ℕ → List (List ℕ)
-rowsOf [] = []
-rowsOf (b ∷ s) = cond (eqb b 10) ((b ∷ []) ∷ rowsOf s) (onto b (rowsOf s))

@@ -1,5 +1,0 @@
-pub mod AskedLaws
-pub mod FileLaws
-pub mod Laws
-pub mod QuotedLaws
-pub mod WordLaws

@@ -1,0 +1,13 @@
+-- `replay::telling::question` meets its contract: the part of the row is within it. Assumes nothing.
+use native.Mathlib.Omega.{arith}
+use lib.ListN.{length-take}
+use borrow.Author.Needs.{needs}
+use Rattle.replay.proofs.telling.question.Statement.{statement}
+use Rattle.replay.proofs.telling.question.Tie as tie
+
+slice-aggregate-print : tie.Need-slice-aggregate-print
+slice-aggregate-print c = simp length-take (omega (arith, c .before .text-length .ensures))
+
+pub question-spec : {M : Type 1} → statement M
+question-spec =
+    tie.close (tie.spec (λ c κs. search needs) slice-aggregate-print (λ c κs. search needs) (λ c. search needs))

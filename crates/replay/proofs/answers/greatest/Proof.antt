@@ -5,12 +5,6 @@ use borrow.Author.Needs.{needs}
 use Rattle.replay.proofs.answers.greatest.Statement.{statement}
 use Rattle.replay.proofs.answers.greatest.Tie as tie
 
--- /tmp/replay/target/rlib/raw_date.rlib/lang/src/lib.rt:24:48
--- /tmp/replay/target/rlib/date.rlib/lang/src/lib.rt:34:42
--- /tmp/replay/target/rlib/date_hour.rlib/lang/src/lib.rt:27:50
--- /tmp/replay/target/rlib/uniform_date.rlib/lang/src/lib.rt:22:56
--- /tmp/replay/target/rlib/eu5_date.rlib/lang/src/lib.rt:31:48
--- /tmp/replay/target/rlib/vic3_date.rlib/lang/src/lib.rt:28:50
 returns : tie.Need-returns
 unfolding packed greatest lengths monthLength
 returns c = rw (c .date .ensures, c .before .enum-told .given .1)

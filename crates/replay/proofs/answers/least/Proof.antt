@@ -4,12 +4,6 @@ use borrow.Author.Needs.{needs}
 use Rattle.replay.proofs.answers.least.Statement.{statement}
 use Rattle.replay.proofs.answers.least.Tie as tie
 
--- /tmp/replay/target/rlib/raw_date.rlib/lang/src/lib.rt:23:45
--- /tmp/replay/target/rlib/date.rlib/lang/src/lib.rt:33:39
--- /tmp/replay/target/rlib/date_hour.rlib/lang/src/lib.rt:26:47
--- /tmp/replay/target/rlib/uniform_date.rlib/lang/src/lib.rt:21:53
--- /tmp/replay/target/rlib/eu5_date.rlib/lang/src/lib.rt:30:45
--- /tmp/replay/target/rlib/vic3_date.rlib/lang/src/lib.rt:27:47
 returns : tie.Need-returns
 unfolding packed least
 returns c = rw (c .date .ensures, c .before .enum-told .given .1)

@@ -39,14 +39,14 @@ pub enum Written {
     NotOfKind,
 }
 
-// The greatest number that has fields, and the least one less its sign.
+// The numbers that have fields lie in -243,247,680 to 330,847,679.
 const GREATEST: u64 = 330_847_679;
 
 const LEAST_BELOW: u64 = 243_247_680;
 
 // Hour, day of year and year, each truncated toward zero; a negative hour or day refuses, and so does a year of over 16 bits. So a
-// number below 0 is read only at multiples of 8760, as the 1 January of a year before -5000: such a number is rare, and apart from the
-// others none is divided twice.
+// number below 0 is read only at multiples of 8760, as the 1 January of a year before -5000. These are rare: read apart, they cost the
+// others no division.
 pub fn number_fields(s: i32) -> Numbered
     ensures { λ r. ⌜ ((n : ℕ) → numbered n r ≡ numberFields n s) ⌝ }
     ensures { λ r. ⌜ hourIn r < 24 ⌝ }

@@ -15,6 +15,7 @@ pub mod AppendLaws
 pub mod EntryLaws
 pub mod LengthLaws
 pub mod DigitLaws
+pub mod SameLaws
 pub mod TextBack
 pub mod AnswerLaws
 pub mod LineLaws

@@ -1,10 +1,10 @@
--- The few words that several sections of document 01 share: ranges, integers, quoted bytes, numbers in bytes. Assumes nothing.
+-- The few words that several sections of document 01 share: ranges, integers, quoted bytes, the same bytes, numbers in bytes. Assumes nothing.
 use Prim.Native.Nat.{ℕ, zero, suc, _+_, _*_, _-_, _/_, _%_, _^_}
 use Prim.Native.Char.{code}
 use Prim.Native.String.{String, [] as end, _∷_ as _next_}
 use mathlib.Core.Bool.{Bool, true, false, _&&_}
 use mathlib.Core.List.{List, [], _∷_, _++_}
-use lib.Dec.{leb}
+use lib.Dec.{leb, eqb}
 use lib.IntN.{ℤ, pos, negℤ}
 use lib.ListN.{length}
 use lib.Signed.{leZ}
@@ -41,6 +41,13 @@ bytes (c next s) = code c ∷ bytes s
 abbrev pub byte : String → ℕ
 byte end = 0
 byte (c next s) = code c
+
+-- whether two texts have the same bytes
+unfoldable pub sameBytes : List ℕ → List ℕ → Bool
+sameBytes [] [] = true
+sameBytes [] (c ∷ t) = false
+sameBytes (b ∷ s) [] = false
+sameBytes (b ∷ s) (c ∷ t) = eqb b c && sameBytes s t
 
 -- the number that bytes stand for, big-endian
 unfoldable pub bigEndian : List ℕ → ℕ

@@ -1,4 +1,3 @@
-pub mod Places
 pub mod PieceLaws
 pub mod Texts
 pub mod Determined

@@ -16,7 +16,8 @@ use Rattle.rules.proofs.DecimalLaws.{one-digit, two-digits, filled-one, filled-
 use Rattle.rules.proofs.KindLaws.{fit}
 use Rattle.rules.proofs.OrderLaws.{day-small, hour-small}
 use Rattle.rules.proofs.PackLaws.{handed-tells}
-use Rattle.formatter.specs.Pieces.{digitsIn, filledYear, yearText, marked, hourText, textOf}
+use Rattle.digits.specs.Places.{digitsIn}
+use Rattle.formatter.specs.Pieces.{filledYear, yearText, marked, hourText, textOf}
 use Rattle.formatter.specs.declared.pieces.Style.{Style}
 use Rattle.formatter.specs.declared.pieces.Hour.{Hour}
 use Rattle.formatter.specs.declared.years.Year.{Year}

@@ -1,23 +1,14 @@
 -- The pieces that every text is made of: a year, and marked numbers of one or two digits after it. Assumes nothing.
-use Prim.Native.Nat.{ℕ, zero, suc, _/_, _%_}
+use Prim.Native.Nat.{ℕ, suc}
 use mathlib.Core.Bool.{Bool, cond}
 use mathlib.Core.List.{List, [], _∷_, _++_}
-use lib.ListN.{length, drop}
 use lib.IntN.{ℤ, pos, negsuc}
-use Rattle.rules.specs.Words.{byte, bytes}
-use Rattle.rules.specs.Spelling.{digit, decimal, filled}
+use Rattle.rules.specs.Words.{bytes}
+use Rattle.rules.specs.Spelling.{decimal, filled}
+use Rattle.digits.specs.Places.{digitsIn}
 use Rattle.formatter.specs.declared.years.Year.{Year}
 use Rattle.formatter.specs.declared.pieces.Style.{Style}
 use Rattle.formatter.specs.declared.pieces.Hour.{Hour}
-
--- a text at the front of a buffer; what is after it stays
-abbrev pub placed : List ℕ → List ℕ → List ℕ
-placed text buffer = text ++ drop (length text) buffer
-
--- the last k digits of n, with zeros in front
-unfoldable pub digitsIn : ℕ → ℕ → List ℕ
-digitsIn zero n = []
-digitsIn (suc k) n = digitsIn k (n / 10) ++ digit (n % 10) ∷ []
 
 -- a year zero-filled to one width from year 0 on, and to another, after its sign, before
 abbrev pub filledYear : ℕ → ℕ → ℤ → List ℕ

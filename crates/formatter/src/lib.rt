@@ -16,7 +16,6 @@ use pieces::Hour;
 use pieces::Style;
 use years::Year;
 
-mod digits;
 mod kinds;
 mod pieces;
 mod years;

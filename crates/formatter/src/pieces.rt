@@ -1,12 +1,12 @@
 // What stands after the year: a month, a day and perhaps an hour, each behind its mark.
-use crate::digits;
 ghost use mathlib.Core.Path.{_≡_};
 ghost use mathlib.Core.Bool.{cond};
 ghost use mathlib.Core.List.{[], _∷_};
 ghost use Prim.Native.Nat.{_≤_, _<_};
 ghost use lib.ListN.{length};
 ghost use Rattle.rules.specs.Spelling.{digit, filled};
-ghost use Rattle.formatter.specs.Pieces.{placed, marked, hourText};
+ghost use Rattle.digits.specs.Places.{placed};
+ghost use Rattle.formatter.specs.Pieces.{marked, hourText};
 
 // The mark before a number, and whether the number has always two digits.
 pub(crate) struct Style {

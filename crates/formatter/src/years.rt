@@ -1,10 +1,10 @@
 // The year of each text: the dotted, the ISO and the exchange text have each their own.
-use crate::digits;
 ghost use mathlib.Core.Path.{_≡_};
 ghost use Prim.Native.Nat.{_≤_};
 ghost use lib.ListN.{length};
 ghost use Rattle.rules.specs.Spelling.{filled, plainYear, isoYear, exchangeYear};
-ghost use Rattle.formatter.specs.Pieces.{placed, digitsIn, filledYear, yearText};
+ghost use Rattle.digits.specs.Places.{placed, digitsIn};
+ghost use Rattle.formatter.specs.Pieces.{filledYear, yearText};
 
 // A year's sign and size, and in how many digits the size is written.
 pub(crate) struct Year {

@@ -7,7 +7,7 @@ ghost use Rattle.rules.specs.Words.{bytes};
 ghost use Rattle.rules.specs.Refusals.{Gives};
 ghost use Rattle.rules.specs.Spelling.{putAnswer, putBuffer};
 ghost use Rattle.rules.specs.Listing.{lineOutput, lineEnd, listing};
-ghost use Rattle.formatter.specs.Pieces.{placed};
+ghost use Rattle.digits.specs.Places.{placed};
 ghost use Rattle.listing.specs.Answers.{listed, lengthOf};
 use request::Asked;
 use request::Request;

@@ -9,7 +9,7 @@ ghost use Rattle.rules.specs.Kinds.{unpacked, handedIn};
 ghost use Rattle.rules.specs.Spelling.{dotted, iso};
 ghost use Rattle.rules.specs.Listing.{refusedText, lineEnd};
 ghost use Rattle.expanded.specs.Views.{kindOf};
-ghost use Rattle.formatter.specs.Pieces.{placed};
+ghost use Rattle.digits.specs.Places.{placed};
 ghost use Rattle.listing.specs.Views.{dateLine};
 use expanded::Kind;
 use expanded::Packed;

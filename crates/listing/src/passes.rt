@@ -4,7 +4,7 @@ ghost use mathlib.Core.List.{_∷_};
 ghost use Prim.Native.Nat.{_+_, _-_, _≤_, _<_};
 ghost use lib.ListN.{length, take, drop};
 ghost use Rattle.rules.specs.Listing.{lineOutput, lines, inputLimit};
-ghost use Rattle.formatter.specs.Pieces.{placed};
+ghost use Rattle.digits.specs.Places.{placed};
 ghost use Rattle.listing.specs.Views.{printed};
 use crate::Listed;
 

@@ -4,10 +4,11 @@ use mathlib.Core.Path.{_≡_, refl, sym, ap, _∙_}
 use mathlib.Core.Bool.{Bool, true, false, cond}
 use mathlib.Core.List.{List, [], _∷_, _++_}
 use Prim.Native.Nat.{ℕ, zero, suc, _+_, _-_, _/_, _%_, _^_, _≤_, _<_}
+use native.Mathlib.Nat.{pow-succ', lt-of-lt-of-le, pow-le-pow-right}
 use native.Mathlib.Omega.{arith}
-use lib.Dec.{ltb}
+use lib.Dec.{lit<, leb, ltb}
 use lib.ListN.{length, length-append, length-replicate, replicate}
-use borrow.Author.Tests.{lt-ltb, le-ltb, ltb-true, ltb-false}
+use borrow.Author.Tests.{lt-ltb, le-ltb, ltb-true, ltb-false, leb-true, leb-false}
 use Rattle.rules.specs.Spelling.{digit, decimalIn, decimal, filled}
 
 -- one place more than the digits need adds nothing
@@ -24,7 +25,7 @@ pub one-digit : (n : ℕ) → n < 10 → decimal n ≡ digit n ∷ []
 unfolding decimal decimalIn
 one-digit n h = rw (lt-ltb n 10 h)
 
-pub more-digits : (n : ℕ) → 10 ≤ n → n < 2 ^ 32 → decimal n ≡ decimal (n / 10) ++ digit (n % 10) ∷ []
+pub more-digits : (n : ℕ) → 10 ≤ n → n < 10 ^ 20 → decimal n ≡ decimal (n / 10) ++ digit (n % 10) ∷ []
 unfolding decimal
 more-digits n h k = last-digit 18 n h ∙ ap (λ (l : List ℕ). l ++ digit (n % 10) ∷ []) (sym (enough 18 (n / 10) (omega arith)))
 
@@ -75,6 +76,29 @@ places-least (suc k) n = split (ltb n 10)
 pub digits-least : (n : ℕ) → 1 ≤ length (decimal n)
 unfolding decimal
 digits-least n = places-least 19 n
+
+-- never too few: so many digits hold the number
+pub digits-hold : (n : ℕ) → n < 10 ^ 20 → n < 10 ^ length (decimal n)
+digits-hold = by-digits (λ n l. n < 10 ^ length l) (λ n h. h) more
+  where
+    more : (n : ℕ) (l : List ℕ) → 10 ≤ n → n / 10 < 10 ^ length l → n < 10 ^ length (l ++ digit (n % 10) ∷ [])
+    more n l h p =
+        let e : length (l ++ digit (n % 10) ∷ []) ≡ suc (length l) = rw length-append (omega arith) in
+        rw (e, pow-succ' 10 (length l)) (omega arith)
+
+-- from 10 ^ k on, and below 10 ^ (k + 1), just k + 1
+pub digits-count : (k n : ℕ) → n < 10 ^ 20 → 10 ^ k ≤ n → n < 10 ^ suc k → length (decimal n) ≡ suc k
+digits-count k n h a b = split (leb (length (decimal n)) k) refl
+  where
+    split : (t : Bool) → leb (length (decimal n)) k ≡ t → length (decimal n) ≡ suc k
+    split true e =
+        let less = lt-of-lt-of-le (digits-hold n h) (pow-le-pow-right (lit< tt) {j = k} (leb-true (length (decimal n)) k e)) in
+        absurd (omega arith)
+    split false e = let most = digits-most n h k b in let least = leb-false (length (decimal n)) k e in omega arith
+
+-- one more than of the number without its last
+pub digits-one-more : (n : ℕ) → 10 ≤ n → n < 10 ^ 20 → length (decimal n) ≡ length (decimal (n / 10)) + 1
+digits-one-more n h b = rw (more-digits n h b, length-append)
 
 -- ---- zero-filled
 

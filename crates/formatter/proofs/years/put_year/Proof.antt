@@ -6,8 +6,8 @@ use borrow.Author.Needs.{needs}
 use denote.Ref.{now}
 use lib.ListN.{length, length-drop}
 use Rattle.rules.proofs.WriteLaws.{marked-tail, tail-lent}
-use Rattle.formatter.specs.Pieces.{digitsIn}
-use Rattle.formatter.proofs.Places.{digits-length}
+use Rattle.digits.specs.Places.{digitsIn}
+use Rattle.digits.proofs.Places.{digits-length}
 use Rattle.formatter.proofs.years.put_year.Statement.{statement}
 use Rattle.formatter.proofs.years.put_year.Tie as tie
 

@@ -1,7 +1,7 @@
 -- `formatter::years::year_length` meets its contract. Assumes nothing.
 use native.Mathlib.Omega.{arith}
 use borrow.Author.Needs.{needs}
-use Rattle.formatter.proofs.Places.{digits-length}
+use Rattle.digits.proofs.Places.{digits-length}
 use Rattle.formatter.proofs.years.year_length.Statement.{statement}
 use Rattle.formatter.proofs.years.year_length.Tie as tie
 

@@ -6,7 +6,7 @@ use mathlib.Core.Path.{_≡_, refl, sym, ap, _∙_}
 use Prim.Native.Nat.{_+_, _≤_, _-_}
 use lib.ListN.{length, take, drop, length-append}
 use Rattle.rules.specs.Listing.{lineOutput}
-use Rattle.formatter.specs.Pieces.{placed}
+use Rattle.digits.specs.Places.{placed}
 use Rattle.listing.specs.Views.{printed}
 use Rattle.listing.proofs.PassLaws.{Left, Step, left-step, left-room, step-kept, left-none, printed-first, printed-none}
 use Rattle.listing.proofs.passes.put_lines.Statement.{statement}

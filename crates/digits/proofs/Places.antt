@@ -4,13 +4,13 @@ use mathlib.Core.List.{List, [], _∷_, _++_}
 use Prim.Native.Nat.{ℕ, zero, suc, _+_, _-_, _/_, _%_, _^_, _≤_, _<_}
 use native.Mathlib.Numerals.{sub-one}
 use native.Mathlib.Omega.{arith}
-use native.Mathlib.Nat.{not-suc-le-zero, le-of-suc-le-suc, lt-of-lt-of-le, pow-le-pow-right, one-le-pow}
+use native.Mathlib.Nat.{not-suc-le-zero, le-of-suc-le-suc, lt-of-lt-of-le, pow-le-pow-right}
 use lib.Dec.{lit<}
 use lib.ListN.{length, drop, set, replicate, length-append}
 use lib.Seq.{append-snoc}
 use Rattle.rules.specs.Spelling.{digit, decimal, filled}
-use Rattle.rules.proofs.DecimalLaws.{one-digit, more-digits}
-use Rattle.formatter.specs.Pieces.{digitsIn}
+use Rattle.rules.proofs.DecimalLaws.{by-digits, digits-hold}
+use Rattle.digits.specs.Places.{digitsIn}
 
 -- ---- a turn of the loop leaves as much to be written as it found
 
@@ -51,24 +51,25 @@ zeros (suc j) k n h =
 
 -- ---- a number in decimal, and zero-filled
 
-pub one : (n : ℕ) → n < 10 → decimal n ≡ digitsIn 1 n
+-- its own digits: as many as it has
+pub own-digits : (n : ℕ) → n < 10 ^ 20 → decimal n ≡ digitsIn (length (decimal n)) n
 unfolding digitsIn
-one n h = one-digit n h ∙ ap (λ (m : ℕ). digit m ∷ []) (omega arith)
-
-pub several : (k n : ℕ) → 10 ^ suc k ≤ n → n < 10 ^ suc (suc k) → n < 2 ^ 32 → decimal n ≡ digitsIn (suc (suc k)) n
-unfolding digitsIn
-several zero n a b h = more-digits n (omega arith) h ∙ ap (λ (l : List ℕ). l ++ digit (n % 10) ∷ []) (one (n / 10) (omega arith))
-several (suc k) n a b h =
-    more-digits n (omega (arith, one-le-pow k 10 (lit< tt))) h ∙ ap (λ (l : List ℕ). l ++ digit (n % 10) ∷ []) (several k (n / 10) (omega arith) (omega arith) (omega arith))
+own-digits = by-digits (λ n l. l ≡ digitsIn (length l) n) (λ n h. ap (λ (m : ℕ). digit m ∷ []) (omega arith)) more
+  where
+    more : (n : ℕ) (l : List ℕ) → 10 ≤ n → l ≡ digitsIn (length l) (n / 10) → l ++ digit (n % 10) ∷ [] ≡ digitsIn (length (l ++ digit (n % 10) ∷ [])) n
+    more n l h e =
+        let long : length (l ++ digit (n % 10) ∷ []) ≡ suc (length l) = rw length-append (omega arith) in
+        rw long (ap (λ (m : List ℕ). m ++ digit (n % 10) ∷ []) e)
 
 -- at least w digits: as many as the number has
-pub filled-own : (w k n : ℕ) → decimal n ≡ digitsIn k n → w ≤ k → filled w n ≡ digitsIn k n
+pub filled-own : (w k n : ℕ) → n < 10 ^ 20 → k ≡ length (decimal n) → w ≤ k → filled w n ≡ digitsIn k n
 unfolding filled
-filled-own w k n e h = let none : w - k ≡ 0 = omega arith in rw (e, digits-length k n, none)
+filled-own w k n b e h = let none : w - length (decimal n) ≡ 0 = omega arith in rw (none, e) (own-digits n b)
 
 -- or as many as are asked for
-pub filled-more : (w k n : ℕ) → decimal n ≡ digitsIn k n → n < 10 ^ k → k < w → filled w n ≡ digitsIn w n
+pub filled-more : (w k n : ℕ) → n < 10 ^ 20 → k ≡ length (decimal n) → k < w → filled w n ≡ digitsIn w n
 unfolding filled
-filled-more w k n e b h =
-    let all : (w - k) + k ≡ w = omega arith in
-    rw (e, digits-length k n) (sym (zeros (w - k) k n b) ∙ ap (λ (m : ℕ). digitsIn m n) all)
+filled-more w k n b e h =
+    let own = length (decimal n) in
+    let all : (w - own) + own ≡ w = omega arith in
+    ap (λ (l : List ℕ). replicate (w - own) (digit 0) ++ l) (own-digits n b) ∙ sym (zeros (w - own) own n (digits-hold n b)) ∙ ap (λ (m : ℕ). digitsIn m n) all

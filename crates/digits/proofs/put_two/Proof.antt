@@ -1,11 +1,11 @@
--- `formatter::digits::put_two` meets its contract: two stores. Assumes nothing.
+-- `digits::put_two` meets its contract: two stores. Assumes nothing.
 use borrow.Author.Needs.{needs}
 use mathlib.Core.List.{_∷_, []}
 use lib.Seq.{sets-eq}
 use denote.Ref.{now}
 use Rattle.rules.proofs.DecimalLaws.{filled-two}
-use Rattle.formatter.proofs.digits.put_two.Statement.{statement}
-use Rattle.formatter.proofs.digits.put_two.Tie as tie
+use Rattle.digits.proofs.put_two.Statement.{statement}
+use Rattle.digits.proofs.put_two.Tie as tie
 
 returns : tie.Need-returns
 returns c = rw (filled-two _ (c .pre .0)) (sets-eq (_ ∷ _ ∷ []) (now (c .args .out)) 0 (c .pre .1))

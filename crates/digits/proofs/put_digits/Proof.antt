@@ -1,14 +1,14 @@
--- `formatter::digits::put_digits` meets its contract. The invariant: what is left to be written, over the buffer as it is, is what is to be there at the end. Assumes nothing.
+-- `digits::put_digits` meets its contract. The invariant: what is left to be written, over the buffer as it is, is what is to be there at the end. Assumes nothing.
 use borrow.Author.Needs.{needs}
 use native.Mathlib.Omega.{arith}
 use mathlib.Core.Path.{_≡_, refl, _∙_}
 use mathlib.Core.List.{_++_}
 use Prim.Native.Nat.{_≤_}
 use lib.ListN.{length, drop, length-set}
-use Rattle.formatter.specs.Pieces.{placed, digitsIn}
-use Rattle.formatter.proofs.Places.{digit-less, digit-none, digits-length}
-use Rattle.formatter.proofs.digits.put_digits.Statement.{statement}
-use Rattle.formatter.proofs.digits.put_digits.Tie as tie
+use Rattle.digits.specs.Places.{placed, digitsIn}
+use Rattle.digits.proofs.Places.{digit-less, digit-none, digits-length}
+use Rattle.digits.proofs.put_digits.Statement.{statement}
+use Rattle.digits.proofs.put_digits.Tie as tie
 
 abbrev Inv-loop : tie.InvT-loop
 Inv-loop out₀ n w i₀ m₀ out i m =

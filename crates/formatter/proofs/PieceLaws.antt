@@ -47,15 +47,14 @@ one-room s n m e p r = rw (e, p) at r
 
 -- ---- a year
 
--- by its halves, and by how many digits its size has
-pub year-above : {t u d : ℕ} (a b r : ℕ) (y : ℤ) → Halved t y u d → d ≤ 0 → filled a u ≡ digitsIn r u → digitsIn r u ≡ filledYear a b y
-year-above a b r (pos n) h z e = rw (h .up-is) (sym e)
-year-above a b r (negsuc n) h z e = let q = h .dn-is in absurd (omega arith)
+-- by its halves: from 0 on it is what is up, before it is what is down
+pub year-above : {t u d : ℕ} (a b : ℕ) (y : ℤ) → Halved t y u d → d ≤ 0 → filled a u ≡ filledYear a b y
+year-above a b (pos n) h z = rw (h .up-is)
+year-above a b (negsuc n) h z = let q = h .dn-is in absurd (omega arith)
 
-pub year-below : {t u d : ℕ} (a b r : ℕ) (y : ℤ) → Halved t y u d → 0 < d → filled b d ≡ digitsIn r d
-    → bytes "-" ++ digitsIn r d ≡ filledYear a b y
-year-below a b r (pos n) h z e = let q = h .dn-is in absurd (omega arith)
-year-below a b r (negsuc n) h z e = rw (h .dn-is) (ap (λ (l : List ℕ). bytes "-" ++ l) (sym e))
+pub year-below : {t u d : ℕ} (a b : ℕ) (y : ℤ) → Halved t y u d → 0 < d → bytes "-" ++ filled b d ≡ filledYear a b y
+year-below a b (pos n) h z = let q = h .dn-is in absurd (omega arith)
+year-below a b (negsuc n) h z = rw (h .dn-is)
 
 -- the years of the three texts
 pub plain-filled : (y : ℤ) → filledYear 1 1 y ≡ plainYear y

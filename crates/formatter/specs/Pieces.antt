@@ -2,6 +2,7 @@
 use Prim.Native.Nat.{ℕ, suc}
 use mathlib.Core.Bool.{Bool, cond}
 use mathlib.Core.List.{List, [], _∷_, _++_}
+use lib.Dec.{eqb}
 use lib.IntN.{ℤ, pos, negsuc}
 use Rattle.rules.specs.Words.{bytes}
 use Rattle.rules.specs.Spelling.{decimal, filled}
@@ -15,9 +16,13 @@ abbrev pub filledYear : ℕ → ℕ → ℤ → List ℕ
 filledYear above below (pos n) = filled above n
 filledYear above below (negsuc n) = bytes "-" ++ filled below (suc n)
 
+-- a sign's byte; 0 is none
+abbrev pub signText : ℕ → List ℕ
+signText sign = cond (eqb sign 0) [] (sign ∷ [])
+
 -- the year that is to be written
-abbrev pub yearText : Year → List ℕ
-yearText y = cond (y .negative) (bytes "-" ++ digitsIn (y .digits) (y .size)) (digitsIn (y .digits) (y .size))
+unfoldable pub yearText : Year → List ℕ
+yearText y = signText (y .sign) ++ digitsIn (y .digits) (y .size)
 
 -- a mark, and a number in two digits, or in as many as it has
 unfoldable pub marked : Style → ℕ → List ℕ

@@ -1,17 +1,23 @@
 // The year of each text: the dotted, the ISO and the exchange text have each their own.
 ghost use mathlib.Core.Path.{_≡_};
+ghost use mathlib.Core.List.{_++_};
 ghost use Prim.Native.Nat.{_≤_};
 ghost use lib.ListN.{length};
 ghost use Rattle.rules.specs.Spelling.{filled, plainYear, isoYear, exchangeYear};
 ghost use Rattle.digits.specs.Places.{placed, digitsIn};
-ghost use Rattle.formatter.specs.Pieces.{filledYear, yearText};
+ghost use Rattle.formatter.specs.Pieces.{filledYear, signText, yearText};
 
-// A year's sign and size, and in how many digits the size is written.
+// A year's sign as its byte, or NO_SIGN; its size; and in how many digits the size is written.
 pub(crate) struct Year {
-    pub(crate) negative: bool,
+    pub(crate) sign: u8,
     pub(crate) size: u64,
     pub(crate) digits: usize,
 }
+
+// Nothing is written before the digits.
+const NO_SIGN: u8 = 0;
+
+const MINUS: u8 = b'-';
 
 // How many digits: as many as the number has, and at least so many.
 fn at_least(width: usize, n: u64) -> usize
@@ -26,6 +32,19 @@ fn at_least(width: usize, n: u64) -> usize
     own
 }
 
+// A sign and, after it, a size in at least so many digits.
+fn signed(sign: u8, size: u64, width: usize) -> Year
+    requires { ⌜ (size ≤ 32768) × (width ≤ 5) ⌝ }
+    ensures { λ r. ⌜ yearText r ≡ signText sign ++ filled width size ⌝ }
+    ensures { λ r. ⌜ r .digits ≤ 5 ⌝ }
+{
+    Year {
+        sign,
+        size,
+        digits: at_least(width, size),
+    }
+}
+
 // A year of at least so many digits from year 0 on, and at least so many after its sign before.
 fn filled_year(year: i16, above: usize, below: usize) -> Year
     requires { ⌜ (above ≤ 5) × (below ≤ 5) ⌝ }
@@ -33,20 +52,10 @@ fn filled_year(year: i16, above: usize, below: usize) -> Year
     ensures { λ r. ⌜ r .digits ≤ 5 ⌝ }
 {
     let h = sign::halves16(year);
-    let up = h.up;
-    let dn = h.dn;
-    if 0 < dn {
-        return Year {
-            negative: true,
-            size: dn,
-            digits: at_least(below, dn),
-        };
+    if 0 < h.dn {
+        return signed(MINUS, h.dn, below);
     }
-    Year {
-        negative: false,
-        size: up,
-        digits: at_least(above, up),
-    }
+    signed(NO_SIGN, h.up, above)
 }
 
 // Unpadded.
@@ -80,22 +89,23 @@ pub(crate) fn year_length(year: Year) -> usize
     ensures { λ r. ⌜ r ≤ 6 ⌝ }
 {
     let digits = year.digits;
-    if year.negative {
-        return digits + 1;
+    if year.sign == NO_SIGN {
+        return digits;
     }
-    digits
+    digits + 1
 }
 
 pub(crate) fn put_year(out: &mut [u8], year: Year)
     requires { ⌜ length (yearText year) ≤ length (now out) ⌝ }
     ensures { λ _. ⌜ now (out .exit) ≡ placed (yearText year) (now (out .entry)) ⌝ }
 {
+    let sign = year.sign;
     let size = year.size;
     let digits = year.digits;
-    if year.negative {
-        digits::put_digits(&mut out[1..], size, digits);
-        out[0] = b'-';
-    } else {
+    if sign == NO_SIGN {
         digits::put_digits(out, size, digits);
+    } else {
+        digits::put_digits(&mut out[1..], size, digits);
+        out[0] = sign;
     }
 }

@@ -1,5 +1,6 @@
 -- `formatter::years::filled_year` meets its contract: its sign and its size by halves. Assumes nothing.
 use borrow.Author.Needs.{needs}
+use mathlib.Core.Path.{_∙_}
 use mir.Facts.{toZ-ofZ}
 use Rattle.sign.specs.Halves.{Halved}
 use Rattle.formatter.proofs.PieceLaws.{year-above, year-below}
@@ -9,17 +10,14 @@ use Rattle.formatter.proofs.years.filled_year.Tie as tie
 got : (c : tie.After-halves16) → Halved 32767 (c .before .args .year) (c .halves16 .result .up) (c .halves16 .result .dn)
 got c = rw (toZ-ofZ (c .before .fits .year)) at (c .halves16 .ensures)
 
-at-least-requires : tie.Need-at-least-requires
-at-least-requires c κs = (c .before .halves16 .ensures .dn-most, c .before .before .pre .1)
-
 returns : tie.Need-returns
 returns c =
-    (year-below _ _ _ _ (got (c .before .before)) (c .before .if1 .taken) (c .at-least .ensures .0), c .at-least .ensures .1)
+    (c .signed .ensures .0 ∙ year-below _ _ _ (got (c .before .before .before)) (c .before .if1 .taken), c .signed .ensures .1)
 
 returns-2 : tie.Need-returns-2
 returns-2 c =
-    (year-above _ _ _ _ (got (c .before .before)) (c .before .if1 .left) (c .at-least2 .ensures .0), c .at-least2 .ensures .1)
+    (c .signed2 .ensures .0 ∙ year-above _ _ _ (got (c .before .before .before)) (c .before .if1 .left), c .signed2 .ensures .1)
 
 pub filled-year-spec : {M : Type 1} → statement M
 filled-year-spec =
-    tie.close (tie.spec (λ c κs. search needs) at-least-requires returns (λ c κs. search needs) returns-2)
+    tie.close (tie.spec (λ c κs. search needs) (λ c κs. search needs) returns (λ c κs. search needs) returns-2)

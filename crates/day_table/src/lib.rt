@@ -9,31 +9,21 @@ ghost use Rattle.day_table.specs.Entries.{fourAt, wordOf};
 
 mod table;
 
-fn pair16(lo: u16, hi: u16) -> u32
-    ensures { λ r. ⌜ r ≡ lo + hi * 65536 ⌝ }
-{
-    lo as u32 + hi as u32 * 0x1_0000
-}
-
-fn pair32(lo: u32, hi: u32) -> u64
-    ensures { λ r. ⌜ r ≡ lo + hi * 4294967296 ⌝ }
-{
-    lo as u64 + hi as u64 * 0x1_0000_0000
-}
-
 // Four entries from a place on, as one word, the first lowest.
 fn four(t: &[u16; 365], at: usize) -> u64
     requires { ⌜ at ≤ 361 ⌝ }
     ensures { λ r. ⌜ r ≡ fourAt (now (t .entry)) at ⌝ }
 {
-    pair32(pair16(t[at], t[at + 1]), pair16(t[at + 2], t[at + 3]))
+    let lo = util::pair16(t[at], t[at + 1]);
+    let hi = util::pair16(t[at + 2], t[at + 3]);
+    util::pair32(lo, hi)
 }
 
 // The last word has one entry, since 364 is a multiple of four.
 fn last(t: &[u16; 365]) -> u64
     ensures { λ r. ⌜ r ≡ getD (now (t .entry)) 364 0 ⌝ }
 {
-    pair32(pair16(t[364], 0), 0)
+    util::pair32(util::pair16(t[364], 0), 0)
 }
 
 // The word of the entries from 4 * k on.

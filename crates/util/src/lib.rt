@@ -13,19 +13,20 @@ pub enum Parsed {
     NotDigits,
 }
 
+// Two numbers as one of twice the width, the first lowest.
 fn pair8(lo: u8, hi: u8) -> u16
     ensures { λ r. ⌜ r ≡ lo + hi * 2 ^ 8 ⌝ }
 {
     lo as u16 + hi as u16 * 0x100
 }
 
-fn pair16(lo: u16, hi: u16) -> u32
+pub fn pair16(lo: u16, hi: u16) -> u32
     ensures { λ r. ⌜ r ≡ lo + hi * 2 ^ 16 ⌝ }
 {
     lo as u32 + hi as u32 * 0x1_0000
 }
 
-fn pair32(lo: u32, hi: u32) -> u64
+pub fn pair32(lo: u32, hi: u32) -> u64
     ensures { λ r. ⌜ r ≡ lo + hi * 2 ^ 32 ⌝ }
 {
     lo as u64 + hi as u64 * 0x1_0000_0000

@@ -43,7 +43,7 @@ fn started(answer: Started) -> Told
 {
     match answer {
         Started::Written => Told::Done,
-        Started::NoRoom => Told::Refused(12),
+        Started::NoRoom => Told::Refused(refusals::NO_ROOM),
     }
 }
 
@@ -52,8 +52,8 @@ fn checked(answer: Checked) -> Told
 {
     match answer {
         Checked::Records(n) => Told::Number(n),
-        Checked::BadLength => Told::Refused(9),
-        Checked::BadVersion => Told::Refused(10),
+        Checked::BadLength => Told::Refused(refusals::BAD_LENGTH),
+        Checked::BadVersion => Told::Refused(refusals::BAD_VERSION),
         Checked::BadRecord(place) => Told::BadRecord(place),
     }
 }
@@ -63,10 +63,10 @@ fn found(answer: Found) -> Told
 {
     match answer {
         Found::Record { kind, date } => Told::Record { kind, date },
-        Found::BadLength => Told::Refused(9),
-        Found::BadVersion => Told::Refused(10),
+        Found::BadLength => Told::Refused(refusals::BAD_LENGTH),
+        Found::BadVersion => Told::Refused(refusals::BAD_VERSION),
         Found::BadRecord(place) => Told::BadRecord(place),
-        Found::NoRecord => Told::Refused(13),
+        Found::NoRecord => Told::Refused(refusals::NO_RECORD),
     }
 }
 
@@ -75,10 +75,10 @@ fn appended(answer: Appended) -> Told
 {
     match answer {
         Appended::At(n) => Told::Number(n),
-        Appended::NotOfKind => Told::Refused(4),
-        Appended::BadLength => Told::Refused(9),
-        Appended::BadVersion => Told::Refused(10),
+        Appended::NotOfKind => Told::Refused(refusals::NOT_OF_KIND),
+        Appended::BadLength => Told::Refused(refusals::BAD_LENGTH),
+        Appended::BadVersion => Told::Refused(refusals::BAD_VERSION),
         Appended::BadRecord(place) => Told::BadRecord(place),
-        Appended::NoRoom => Told::Refused(12),
+        Appended::NoRoom => Told::Refused(refusals::NO_ROOM),
     }
 }

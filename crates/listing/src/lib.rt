@@ -27,9 +27,6 @@ const LINE_END: u8 = 10;
 // The most bytes of an input that is listed.
 const INPUT_LIMIT: usize = 65535;
 
-// The refusal of a line that cannot be read.
-const UNREADABLE: u8 = 8;
-
 // One line's output at the front of a buffer with room for every line, and its length.
 fn build(s: &[u8], out: &mut [u8]) -> usize
     requires { ⌜ 40 ≤ length (now out) ⌝ }
@@ -45,7 +42,7 @@ fn build(s: &[u8], out: &mut [u8]) -> usize
                 Asked::Refused(n) => output::put_refused(out, codes::letter(kind), n),
             }
         }
-        Request::Unreadable => output::put_refused(out, b'?', UNREADABLE),
+        Request::Unreadable => output::put_refused(out, b'?', refusals::UNREADABLE_LINE),
     }
 }
 

@@ -14,16 +14,6 @@ use book::Found;
 use book::Started;
 use codes::Coded;
 
-const BAD_LENGTH: u32 = 9;
-
-const BAD_VERSION: u32 = 10;
-
-const BAD_RECORD: u32 = 11;
-
-const NO_ROOM: u32 = 12;
-
-const NO_RECORD: u32 = 13;
-
 // ---- answers
 
 fn bad_record(place: usize) -> PqAnswer
@@ -31,7 +21,7 @@ fn bad_record(place: usize) -> PqAnswer
     ensures { λ r. ⌜ r ≡ crossed (RefusedAt badRecord place) ⌝ }
 {
     PqAnswer {
-        refusal: BAD_RECORD,
+        refusal: refusals::BAD_RECORD as u32,
         value: place as u32,
     }
 }
@@ -41,7 +31,7 @@ fn start_crossed(started: Started) -> PqAnswer
 {
     match started {
         Started::Written => crossing::gives(0),
-        Started::NoRoom => crossing::refused(NO_ROOM),
+        Started::NoRoom => crossing::refused(refusals::NO_ROOM),
     }
 }
 
@@ -51,8 +41,8 @@ fn count_crossed(checked: Checked) -> PqAnswer
 {
     match checked {
         Checked::Records(n) => crossing::gives(n as u32),
-        Checked::BadLength => crossing::refused(BAD_LENGTH),
-        Checked::BadVersion => crossing::refused(BAD_VERSION),
+        Checked::BadLength => crossing::refused(refusals::BAD_LENGTH),
+        Checked::BadVersion => crossing::refused(refusals::BAD_VERSION),
         Checked::BadRecord(place) => bad_record(place),
     }
 }
@@ -64,18 +54,18 @@ fn place_crossed(appended: Appended) -> PqAnswer
     match appended {
         Appended::At(n) => crossing::gives(n as u32),
         Appended::NotOfKind => crossing::not_of_kind(),
-        Appended::BadLength => crossing::refused(BAD_LENGTH),
-        Appended::BadVersion => crossing::refused(BAD_VERSION),
+        Appended::BadLength => crossing::refused(refusals::BAD_LENGTH),
+        Appended::BadVersion => crossing::refused(refusals::BAD_VERSION),
         Appended::BadRecord(place) => bad_record(place),
-        Appended::NoRoom => crossing::refused(NO_ROOM),
+        Appended::NoRoom => crossing::refused(refusals::NO_ROOM),
     }
 }
 
-fn no_record(n: u32, place: u32) -> PqRecord
+fn no_record(n: u8, place: u32) -> PqRecord
     ensures { λ r. ⌜ r ≡ recordCrossed (RefusedAt n place) ⌝ }
 {
     PqRecord {
-        refusal: n,
+        refusal: n as u32,
         kind: 0,
         value: place,
         field: 0,
@@ -93,10 +83,10 @@ fn record_crossed(found: Found) -> PqRecord
             value: crossing::date_number(date),
             field: 0,
         },
-        Found::BadLength => no_record(BAD_LENGTH, 0),
-        Found::BadVersion => no_record(BAD_VERSION, 0),
-        Found::BadRecord(place) => no_record(BAD_RECORD, place as u32),
-        Found::NoRecord => no_record(NO_RECORD, 0),
+        Found::BadLength => no_record(refusals::BAD_LENGTH, 0),
+        Found::BadVersion => no_record(refusals::BAD_VERSION, 0),
+        Found::BadRecord(place) => no_record(refusals::BAD_RECORD, place as u32),
+        Found::NoRecord => no_record(refusals::NO_RECORD, 0),
     }
 }
 

@@ -7,9 +7,6 @@ use crate::PqAnswer;
 use crate::PqNumber;
 use expanded::Packed;
 
-// Refusal 4: the kind, or what is handed in as a date of it.
-const NOT_OF_KIND: u32 = 4;
-
 // The bits of a date, from its number; any number has some.
 pub fn date_in(date: u32) -> Packed
     ensures { λ r. ⌜ (r .year ≡ yearIn date) × (r .word ≡ wordIn date) ⌝ }
@@ -42,11 +39,11 @@ pub fn gives_date(date: Packed) -> PqAnswer
     gives(date_number(date))
 }
 
-pub fn refused(n: u32) -> PqAnswer
+pub fn refused(n: u8) -> PqAnswer
     ensures { λ r. ⌜ r ≡ crossed (Refused n) ⌝ }
 {
     PqAnswer {
-        refusal: n,
+        refusal: n as u32,
         value: 0,
     }
 }
@@ -54,7 +51,7 @@ pub fn refused(n: u32) -> PqAnswer
 pub fn not_of_kind() -> PqAnswer
     ensures { λ r. ⌜ r ≡ crossed (Refused notOfKind) ⌝ }
 {
-    refused(NOT_OF_KIND)
+    refused(refusals::NOT_OF_KIND)
 }
 
 pub fn gives_number(value: i32) -> PqNumber
@@ -67,7 +64,7 @@ pub fn no_number() -> PqNumber
     ensures { λ r. ⌜ r ≡ numberCrossed (Refused notOfKind) ⌝ }
 {
     PqNumber {
-        refusal: NOT_OF_KIND,
+        refusal: refusals::NOT_OF_KIND as u32,
         value: 0,
     }
 }

@@ -17,12 +17,6 @@ use expanded::Made;
 use number::Guess;
 use number::Read;
 
-const TOO_LONG: u32 = 1;
-
-const NOT_TEXT: u32 = 2;
-
-const NOT_NUMBER: u32 = 3;
-
 // ---- from a text
 
 fn text_crossed(text: Parsed) -> PqAnswer
@@ -30,8 +24,8 @@ fn text_crossed(text: Parsed) -> PqAnswer
 {
     match text {
         Parsed::Date(date) => crossing::gives_date(date),
-        Parsed::TooLong => crossing::refused(TOO_LONG),
-        Parsed::NotText => crossing::refused(NOT_TEXT),
+        Parsed::TooLong => crossing::refused(refusals::TOO_LONG),
+        Parsed::NotText => crossing::refused(refusals::NOT_TEXT),
     }
 }
 
@@ -52,7 +46,7 @@ fn read_crossed(read: Read) -> PqAnswer
 {
     match read {
         Read::Date(date) => crossing::gives_date(date),
-        Read::NotNumber => crossing::refused(NOT_NUMBER),
+        Read::NotNumber => crossing::refused(refusals::NOT_NUMBER),
     }
 }
 
@@ -61,7 +55,7 @@ fn guess_crossed(guess: Guess) -> PqAnswer
 {
     match guess {
         Guess::Date(date) => crossing::gives_date(date),
-        Guess::NotNumber => crossing::refused(NOT_NUMBER),
+        Guess::NotNumber => crossing::refused(refusals::NOT_NUMBER),
     }
 }
 

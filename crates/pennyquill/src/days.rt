@@ -17,10 +17,6 @@ use day_count::Sum;
 use expanded::Ordered;
 use number::Written;
 
-const SUM_OVERFLOWS: u32 = 5;
-
-const OUT_OF_RANGE: u32 = 6;
-
 // ---- dates
 
 fn sum_crossed(sum: Sum) -> PqAnswer
@@ -29,8 +25,8 @@ fn sum_crossed(sum: Sum) -> PqAnswer
     match sum {
         Sum::Date(date) => crossing::gives_date(date),
         Sum::NotOfKind => crossing::not_of_kind(),
-        Sum::Overflow => crossing::refused(SUM_OVERFLOWS),
-        Sum::OutOfRange => crossing::refused(OUT_OF_RANGE),
+        Sum::Overflow => crossing::refused(refusals::SUM_OVERFLOWS),
+        Sum::OutOfRange => crossing::refused(refusals::OUT_OF_RANGE),
     }
 }
 

@@ -10,8 +10,6 @@ use crate::crossing;
 use codes::Coded;
 use formatter::Spelled;
 
-const BUFFER_SHORT: u32 = 7;
-
 fn text_crossed(text: Spelled) -> PqAnswer
     requires { ⌜ numberOf (spelled text) ≤ 4096 ⌝ }
     ensures { λ r. ⌜ r ≡ crossed (spelled text) ⌝ }
@@ -19,7 +17,7 @@ fn text_crossed(text: Spelled) -> PqAnswer
     match text {
         Spelled::Length(n) => crossing::gives(n as u32),
         Spelled::NotOfKind => crossing::not_of_kind(),
-        Spelled::Short => crossing::refused(BUFFER_SHORT),
+        Spelled::Short => crossing::refused(refusals::BUFFER_SHORT),
     }
 }
 

@@ -34,8 +34,8 @@ pub(crate) fn text(kind: Kind, text: &[u8]) -> Told
     let read = by_kind::parse(kind, text);
     match read {
         Parsed::Date(raw) => Told::Date(raw),
-        Parsed::TooLong => Told::Refused(1),
-        Parsed::NotText => Told::Refused(2),
+        Parsed::TooLong => Told::Refused(refusals::TOO_LONG),
+        Parsed::NotText => Told::Refused(refusals::NOT_TEXT),
     }
 }
 
@@ -45,32 +45,32 @@ pub(crate) fn number(kind: Kind, n: i32) -> Told
     match kind {
         Kind::Raw => {
             let raw_date::Decoded::Date(d) = RawDate::from_binary(n) else {
-                return Told::Refused(3);
+                return Told::Refused(refusals::NOT_NUMBER);
             };
             date(d.raw)
         }
         Kind::Date => {
             let date::Decoded::Date(d) = Date::from_binary(n) else {
-                return Told::Refused(3);
+                return Told::Refused(refusals::NOT_NUMBER);
             };
             date(d.raw)
         }
         Kind::Hour => {
             let date_hour::Decoded::Date(d) = DateHour::from_binary(n) else {
-                return Told::Refused(3);
+                return Told::Refused(refusals::NOT_NUMBER);
             };
             date(d.raw)
         }
         Kind::Uniform => Told::Unasked,
         Kind::Eu5 => {
             let eu5_date::Decoded::Date(d) = Eu5Date::from_binary(n) else {
-                return Told::Refused(3);
+                return Told::Refused(refusals::NOT_NUMBER);
             };
             date(d.raw)
         }
         Kind::Vic3 => {
             let vic3_date::Decoded::Date(d) = Vic3Date::from_binary(n) else {
-                return Told::Refused(3);
+                return Told::Refused(refusals::NOT_NUMBER);
             };
             date(d.raw)
         }
@@ -84,26 +84,26 @@ pub(crate) fn guess(kind: Kind, n: i32) -> Told
         Kind::Raw => Told::Unasked,
         Kind::Date => {
             let date::Guessed::Date(d) = Date::from_binary_heuristic(n) else {
-                return Told::Refused(3);
+                return Told::Refused(refusals::NOT_NUMBER);
             };
             date(d.raw)
         }
         Kind::Hour => {
             let date_hour::Guessed::Date(d) = DateHour::from_binary_heuristic(n) else {
-                return Told::Refused(3);
+                return Told::Refused(refusals::NOT_NUMBER);
             };
             date(d.raw)
         }
         Kind::Uniform => Told::Unasked,
         Kind::Eu5 => {
             let eu5_date::Guessed::Date(d) = Eu5Date::from_binary_heuristic(n) else {
-                return Told::Refused(3);
+                return Told::Refused(refusals::NOT_NUMBER);
             };
             date(d.raw)
         }
         Kind::Vic3 => {
             let vic3_date::Guessed::Date(d) = Vic3Date::from_binary_heuristic(n) else {
-                return Told::Refused(3);
+                return Told::Refused(refusals::NOT_NUMBER);
             };
             date(d.raw)
         }
@@ -118,40 +118,40 @@ pub(crate) fn fields(kind: Kind, f: ExpandedRawDate) -> Told
         Kind::Raw => {
             let raw_date::Made::Date(d) = RawDate::from_ymdh_opt(f.year, f.month, f.day, f.hour)
             else {
-                return Told::Refused(4);
+                return Told::Refused(refusals::NOT_OF_KIND);
             };
             date(d.raw)
         }
         Kind::Date => {
             let date::Made::Date(d) = Date::from_ymd_opt(f.year, f.month, f.day) else {
-                return Told::Refused(4);
+                return Told::Refused(refusals::NOT_OF_KIND);
             };
             date(d.raw)
         }
         Kind::Hour => {
             let date_hour::Made::Date(d) = DateHour::from_ymdh_opt(f.year, f.month, f.day, f.hour)
             else {
-                return Told::Refused(4);
+                return Told::Refused(refusals::NOT_OF_KIND);
             };
             date(d.raw)
         }
         Kind::Uniform => {
             let uniform_date::Made::Date(d) = UniformDate::from_ymd_opt(f.year, f.month, f.day)
             else {
-                return Told::Refused(4);
+                return Told::Refused(refusals::NOT_OF_KIND);
             };
             date(d.raw)
         }
         Kind::Eu5 => {
             let eu5_date::Made::Date(d) = Eu5Date::from_ymd_opt(f.year, f.month, f.day) else {
-                return Told::Refused(4);
+                return Told::Refused(refusals::NOT_OF_KIND);
             };
             date(d.raw)
         }
         Kind::Vic3 => {
             let vic3_date::Made::Date(d) = Vic3Date::from_ymdh_opt(f.year, f.month, f.day, f.hour)
             else {
-                return Told::Refused(4);
+                return Told::Refused(refusals::NOT_OF_KIND);
             };
             date(d.raw)
         }

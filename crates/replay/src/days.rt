@@ -26,9 +26,9 @@ fn date_summed(answer: date::Summed) -> Told
 {
     match answer {
         date::Summed::Date(d) => answers::date(d.raw),
-        date::Summed::NotOfKind => Told::Refused(4),
-        date::Summed::Overflow => Told::Refused(5),
-        date::Summed::OutOfRange => Told::Refused(6),
+        date::Summed::NotOfKind => Told::Refused(refusals::NOT_OF_KIND),
+        date::Summed::Overflow => Told::Refused(refusals::SUM_OVERFLOWS),
+        date::Summed::OutOfRange => Told::Refused(refusals::OUT_OF_RANGE),
     }
 }
 
@@ -37,9 +37,9 @@ fn eu5_date_summed(answer: eu5_date::Summed) -> Told
 {
     match answer {
         eu5_date::Summed::Date(d) => answers::date(d.raw),
-        eu5_date::Summed::NotOfKind => Told::Refused(4),
-        eu5_date::Summed::Overflow => Told::Refused(5),
-        eu5_date::Summed::OutOfRange => Told::Refused(6),
+        eu5_date::Summed::NotOfKind => Told::Refused(refusals::NOT_OF_KIND),
+        eu5_date::Summed::Overflow => Told::Refused(refusals::SUM_OVERFLOWS),
+        eu5_date::Summed::OutOfRange => Told::Refused(refusals::OUT_OF_RANGE),
     }
 }
 
@@ -48,9 +48,9 @@ fn vic3_date_summed(answer: vic3_date::Summed) -> Told
 {
     match answer {
         vic3_date::Summed::Date(d) => answers::date(d.raw),
-        vic3_date::Summed::NotOfKind => Told::Refused(4),
-        vic3_date::Summed::Overflow => Told::Refused(5),
-        vic3_date::Summed::OutOfRange => Told::Refused(6),
+        vic3_date::Summed::NotOfKind => Told::Refused(refusals::NOT_OF_KIND),
+        vic3_date::Summed::Overflow => Told::Refused(refusals::SUM_OVERFLOWS),
+        vic3_date::Summed::OutOfRange => Told::Refused(refusals::OUT_OF_RANGE),
     }
 }
 
@@ -72,7 +72,7 @@ fn difference_told(answer: Days) -> Told
 {
     match answer {
         Days::Days(n) => Told::Number(n),
-        Days::NotOfKind => Told::Refused(4),
+        Days::NotOfKind => Told::Refused(refusals::NOT_OF_KIND),
     }
 }
 
@@ -97,7 +97,7 @@ fn binary_told(answer: Written) -> Told
 {
     match answer {
         Written::Number(n) => Told::Number(n),
-        Written::NotOfKind => Told::Refused(4),
+        Written::NotOfKind => Told::Refused(refusals::NOT_OF_KIND),
     }
 }
 
@@ -122,7 +122,7 @@ fn order_told(answer: Ordered) -> Told
         Ordered::Before => Told::Number(-1),
         Ordered::Same => Told::Number(0),
         Ordered::After => Told::Number(1),
-        Ordered::NotOfKind => Told::Refused(4),
+        Ordered::NotOfKind => Told::Refused(refusals::NOT_OF_KIND),
     }
 }
 

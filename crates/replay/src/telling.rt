@@ -132,8 +132,8 @@ fn text(out: &[u8], spelled: Spelled)
             print(b" ");
             print(&out[..n]);
         }
-        Spelled::NotOfKind => refused(4),
-        Spelled::Short => refused(7),
+        Spelled::NotOfKind => refused(refusals::NOT_OF_KIND),
+        Spelled::Short => refused(refusals::BUFFER_SHORT),
     }
 }
 
@@ -154,7 +154,7 @@ pub(crate) fn tell_leaf(row: &[u8], told: LeafTold) {
             small(day);
         }
         LeafTold::Number(n) => signed(sign::halves32(n)),
-        LeafTold::NoMonth => refused(4),
+        LeafTold::NoMonth => refused(refusals::NOT_OF_KIND),
         LeafTold::Unasked => print(b" = unread"),
     }
     print(b"\n");

@@ -20,18 +20,6 @@ pub use numeral::number;
 mod line;
 mod numeral;
 
-// The refusals of a line's date. A text of over 16 bytes:
-const TOO_LONG: u8 = 1;
-
-// a text not of the kind:
-const NOT_TEXT: u8 = 2;
-
-// no such number after way b or g:
-const NO_NUMERAL: u8 = 2;
-
-// a number that is no date, or that the guess refuses.
-const NOT_NUMBER: u8 = 3;
-
 // How the rest of a line is read: as text, as a number by the full decoder, as a number by the guess.
 pub enum Way {
     Text,
@@ -59,8 +47,8 @@ fn date_by_text(kind: Kind, s: &[u8]) -> Asked
     let parsed = by_kind::parse(kind, &s[4..]);
     match parsed {
         Parsed::Date(date) => Asked::Date(date),
-        Parsed::TooLong => Asked::Refused(TOO_LONG),
-        Parsed::NotText => Asked::Refused(NOT_TEXT),
+        Parsed::TooLong => Asked::Refused(refusals::TOO_LONG),
+        Parsed::NotText => Asked::Refused(refusals::NOT_TEXT),
     }
 }
 
@@ -70,12 +58,12 @@ fn date_by_number(kind: Kind, s: &[u8]) -> Asked
     ensures { λ r. ⌜ refusalIn r < 10 ⌝ }
 {
     let Numeral::Value(n) = number(s, 4) else {
-        return Asked::Refused(NO_NUMERAL);
+        return Asked::Refused(refusals::NOT_TEXT);
     };
     let read = number::from_binary(kind, n);
     match read {
         Read::Date(date) => Asked::Date(date),
-        Read::NotNumber => Asked::Refused(NOT_NUMBER),
+        Read::NotNumber => Asked::Refused(refusals::NOT_NUMBER),
     }
 }
 
@@ -85,12 +73,12 @@ fn date_by_guess(kind: Kind, s: &[u8]) -> Asked
     ensures { λ r. ⌜ refusalIn r < 10 ⌝ }
 {
     let Numeral::Value(n) = number(s, 4) else {
-        return Asked::Refused(NO_NUMERAL);
+        return Asked::Refused(refusals::NOT_TEXT);
     };
     let guess = number::from_binary_heuristic(kind, n);
     match guess {
         Guess::Date(date) => Asked::Date(date),
-        Guess::NotNumber => Asked::Refused(NOT_NUMBER),
+        Guess::NotNumber => Asked::Refused(refusals::NOT_NUMBER),
     }
 }
 

@@ -1,23 +1,23 @@
 -- The printed lines byte by byte. Assumes nothing.
-use mathlib.Core.Path.{_≡_, refl, sym, ap, subst, _∙_}
-use mathlib.Core.Bool.{Bool, true, false}
+use mathlib.Core.Path.{_≡_, refl, sym, ap, _∙_}
+use mathlib.Core.Bool.{true}
 use mathlib.Core.List.{List, [], _∷_, _++_}
-use Prim.Native.Nat.{ℕ, _%_, _≤_, _<_}
+use Prim.Native.Nat.{ℕ, _≤_, _<_}
 use native.Mathlib.Omega.{arith}
 use borrow.Author.Tests.{le-leb}
-use lib.Dec.{T, eqb}
 use lib.IntN.{ℤ}
 use lib.ListN.{length, take, drop}
 use lib.Seq.{take-at, take-all}
 use native.Mathlib.Nat.{le-refl}
 use Rattle.rules.specs.Words.{bytes}
-use Rattle.rules.specs.Refusals.{Answer, Gives, _then_, demand, given, notOfKind}
-use Rattle.rules.specs.Kinds.{Kind, Fields, ofKind, made, unpacked, handedIn}
+use Rattle.rules.specs.Refusals.{Answer, Gives, _then_, given}
+use Rattle.rules.specs.Kinds.{Kind, Fields, ofKind, unpacked, handedIn}
 use Rattle.rules.specs.Spelling.{digit, putAnswer, putBuffer}
 use Rattle.rules.specs.Listing.{refusedText, lineEnd}
 use Rattle.rules.proofs.DecimalLaws.{one-digit}
 use Rattle.rules.proofs.PackLaws.{handed-tells}
 use Rattle.rules.proofs.ReadBack.{backOne}
+use Rattle.expanded.proofs.Laws.{handed-by}
 use Rattle.formatter.specs.declared.Spelled.{Spelled}
 use Rattle.formatter.specs.declared.Spelled.the-variants as W
 use Rattle.formatter.specs.Views.{spelled, lengthOf}
@@ -32,17 +32,6 @@ pub placed-as : (l : List ℕ) {t u : List ℕ} → t ≡ u → u ++ drop (lengt
 placed-as l e = ap (λ (x : List ℕ). x ++ drop (length x) l) (sym e)
 
 -- ---- a text of a date of the kind, in a buffer with room for it
-
--- the fields that a date of the kind gives are its bits' own
-pub own-fields : (k : Kind) (y : ℤ) (w : ℕ) → given (handedIn k y w) ≡ true → handedIn k y w ≡ Gives (unpacked y w)
-unfolding handedIn made
-own-fields k y w e = split (eqb (w % 4) 0) (ofKind k (unpacked y w)) e
-  where
-    split : (s t : Bool) → given (demand s notOfKind (demand t notOfKind (Gives (unpacked y w)))) ≡ true
-        → demand s notOfKind (demand t notOfKind (Gives (unpacked y w))) ≡ Gives (unpacked y w)
-    split true true e = refl
-    split true false e = absurd (subst T (sym e) tt)
-    split false t e = absurd (subst T (sym e) tt)
 
 -- the length of what was written, by the view of an answer
 pub length-told : {R : Type 0} (view : R → Answer ℕ) (long : R → ℕ) → ((r : R) → backOne (λ (x : ℕ). x) 0 (view r) ≡ long r)
@@ -62,7 +51,7 @@ pub fits : (k : Kind) (y : ℤ) (w : ℕ) (texts : Fields → List ℕ) (l₀ l 
     → Done (handedIn k y w then λ f. Gives (texts f)) l₀ r l → Fits (texts (unpacked y w)) l₀ r l
 unfolding putAnswer putBuffer
 fits k y w texts l₀ l r g room short d =
-    let e = own-fields k y w g in
+    let e = handed-by k y w g in
     let s = short (handed-tells k y w (unpacked y w) e .of-kind) in
     let n = length (texts (unpacked y w)) in
     let test = le-leb n (length l₀) (omega arith) in

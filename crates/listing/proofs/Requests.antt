@@ -1,20 +1,21 @@
 -- What a line prints, from what was read of it: the date that it is answered, a refusal, or `?`. Assumes nothing.
 use mathlib.Core.Path.{_≡_, refl, sym, ap, subst, _∙_}
-use mathlib.Core.Bool.{Bool, true, false}
+use mathlib.Core.Bool.{true}
 use mathlib.Core.List.{List, _++_}
 use Prim.Native.Nat.{ℕ}
 use native.Mathlib.Omega.{arith}
 use lib.IntN.{ℤ}
 use lib.ListN.{drop}
 use Rattle.rules.specs.Words.{byte}
-use Rattle.rules.specs.Refusals.{Answer, Gives, Refused, RefusedAt, _then_, given, unreadableLine}
+use Rattle.rules.specs.Refusals.{Answer, Gives, Refused, given, unreadableLine}
 use Rattle.rules.specs.Kinds.{Kind, Fields, Stored, ofKind, packed, unpacked, handedIn, stored, store}
-use Rattle.rules.specs.Listing.{Way, Line, letter, readLine, dateBy, refusedText, dateText, requestText, lineEnd, lineOutput}
+use Rattle.rules.specs.Listing.{Way, letter, readLine, dateBy, refusedText, dateText, requestText, lineEnd, lineOutput}
 use Rattle.rules.proofs.PackLaws.{handed-back}
 use Rattle.rules.proofs.ReadBack.{backOne, backBy}
-use Rattle.rules.proofs.AnswerLaws.{Told, gives, refuses, Small, Dated, date-told}
+use Rattle.rules.proofs.AnswerLaws.{Told, gives, refuses, Dated}
+use Rattle.rules.proofs.RefusalLaws.{RefusedBy, date-told, has-way}
+use Rattle.expanded.proofs.Laws.{handed-by}
 use Rattle.listing.specs.Views.{dateLine}
-use Rattle.listing.proofs.LineTexts.{own-fields}
 
 -- a line that is not read
 pub unread-output : (s : List ℕ) → readLine s ≡ Refused unreadableLine → lineOutput s ≡ refusedText (byte "?") 8 ++ lineEnd
@@ -27,6 +28,9 @@ module _ (s : List ℕ) (k : Kind) (w : Way) (line : readLine s ≡ Gives (recor
   unfolding lineOutput requestText
   answered a e = rw (line, e)
 
+  told : Told (RefusedBy w) (Dated k) (dateBy w k (drop 4 s))
+  told = date-told w k (drop 4 s) (has-way s _ line)
+
   -- a date handed in by its own bits
   pub record Printed (year : ℤ) (word : ℕ) : Type 0 where
     pub of-kind : given (handedIn k year word) ≡ true
@@ -37,22 +41,22 @@ module _ (s : List ℕ) (k : Kind) (w : Way) (line : readLine s ≡ Gives (recor
   by-fields f e p =
       let h : handedIn k (f .year) (packed f) ≡ Gives f = handed-back k f p in
       let g : given (handedIn k (f .year) (packed f)) ≡ true = rw h in
-      let u : unpacked (f .year) (packed f) ≡ f = ap (backOne (λ (x : Fields). x) f) (sym (own-fields k (f .year) (packed f) g) ∙ h) in
+      let u : unpacked (f .year) (packed f) ≡ f = ap (backOne (λ (x : Fields). x) f) (sym (handed-by k (f .year) (packed f) g) ∙ h) in
       record { of-kind = g; is = rw u (answered (Gives f) e) }
 
-  by-told : (a : Answer Fields) (b : Stored) → Told Small (Dated k) a → dateBy w k (drop 4 s) ≡ a → Gives b ≡ store a → Printed (b .year) (b .word)
+  by-told : (a : Answer Fields) (b : Stored) → Told (RefusedBy w) (Dated k) a → dateBy w k (drop 4 s) ≡ a → Gives b ≡ store a → Printed (b .year) (b .word)
   by-told (Gives f) b (gives p) e q =
       let same : stored f ≡ b = ap (backOne (λ (x : Stored). x) b) (sym q) in
       subst (λ (x : Stored). Printed (x .year) (x .word)) same (by-fields f e p)
   by-told (Refused n) b (refuses h) e q = let z : _≡_ {A = ℕ} 0 1 = ap (backOne (λ (x : Stored). 0) 1) q in absurd (omega arith)
 
   pub date-output : (b : Stored) → Gives b ≡ store (dateBy w k (drop 4 s)) → Printed (b .year) (b .word)
-  date-output b q = by-told (dateBy w k (drop 4 s)) b (date-told w k (drop 4 s)) refl q
+  date-output b q = by-told (dateBy w k (drop 4 s)) b told refl q
 
-  by-refusal : (a : Answer Fields) (n : ℕ) → Told Small (Dated k) a → dateBy w k (drop 4 s) ≡ a → Refused n ≡ store a → lineOutput s ≡ refusedText (letter k) n ++ lineEnd
+  by-refusal : (a : Answer Fields) (n : ℕ) → Told (RefusedBy w) (Dated k) a → dateBy w k (drop 4 s) ≡ a → Refused n ≡ store a → lineOutput s ≡ refusedText (letter k) n ++ lineEnd
   unfolding dateText
   by-refusal (Gives f) n (gives p) e q = let z : _≡_ {A = ℕ} 1 0 = ap (backOne (λ (x : Stored). 0) 1) q in absurd (omega arith)
   by-refusal (Refused m) n (refuses h) e q = let same : n ≡ m = ap (backBy (λ (x : Stored). 0) (λ i. i)) q in rw same (answered (Refused m) e)
 
   pub refusal-output : (n : ℕ) → Refused n ≡ store (dateBy w k (drop 4 s)) → lineOutput s ≡ refusedText (letter k) n ++ lineEnd
-  refusal-output n q = by-refusal (dateBy w k (drop 4 s)) n (date-told w k (drop 4 s)) refl q
+  refusal-output n q = by-refusal (dateBy w k (drop 4 s)) n told refl q

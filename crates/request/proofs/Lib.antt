@@ -1,3 +1,4 @@
 pub mod NumeralLaws
 pub mod LineLaws
+pub mod Answers
 pub mod Determined

@@ -42,7 +42,6 @@ pub enum Asked {
 fn date_by_text(kind: Kind, s: &[u8]) -> Asked
     requires { ⌜ 4 ≤ length (now s) ⌝ }
     ensures { λ r. ⌜ asked r ≡ store (dateBy byText (kindOf kind) (drop 4 (now (s .entry)))) ⌝ }
-    ensures { λ r. ⌜ refusalIn r < 10 ⌝ }
 {
     let parsed = by_kind::parse(kind, &s[4..]);
     match parsed {
@@ -55,7 +54,6 @@ fn date_by_text(kind: Kind, s: &[u8]) -> Asked
 fn date_by_number(kind: Kind, s: &[u8]) -> Asked
     requires { ⌜ readsNumbers (kindOf kind) ≡ true ⌝ }
     ensures { λ r. ⌜ asked r ≡ store (dateBy byNumber (kindOf kind) (drop 4 (now (s .entry)))) ⌝ }
-    ensures { λ r. ⌜ refusalIn r < 10 ⌝ }
 {
     let Numeral::Value(n) = number(s, 4) else {
         return Asked::Refused(refusals::NOT_TEXT);
@@ -70,7 +68,6 @@ fn date_by_number(kind: Kind, s: &[u8]) -> Asked
 fn date_by_guess(kind: Kind, s: &[u8]) -> Asked
     requires { ⌜ guesses (kindOf kind) ≡ true ⌝ }
     ensures { λ r. ⌜ asked r ≡ store (dateBy byGuess (kindOf kind) (drop 4 (now (s .entry)))) ⌝ }
-    ensures { λ r. ⌜ refusalIn r < 10 ⌝ }
 {
     let Numeral::Value(n) = number(s, 4) else {
         return Asked::Refused(refusals::NOT_TEXT);

@@ -18,6 +18,8 @@ pub mod DigitLaws
 pub mod SameLaws
 pub mod TextBack
 pub mod AnswerLaws
+pub mod CodeLaws
+pub mod RefusalLaws
 pub mod LineLaws
 pub mod NumberLaws
 pub mod NumberBack

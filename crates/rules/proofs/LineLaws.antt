@@ -1,19 +1,20 @@
 -- The lines of an input, one after the other; and how long a listing can be. Assumes nothing.
-use mathlib.Core.Path.{_≡_, refl, sym, ap, _∙_}
-use mathlib.Core.Bool.{Bool, true, false, cond, _&&_}
+use mathlib.Core.Path.{_≡_, refl, ap}
+use mathlib.Core.Bool.{Bool, true, false, cond}
 use mathlib.Core.List.{List, [], _∷_, _++_, map}
-use Prim.Native.Nat.{ℕ, zero, suc, _+_, _*_, _≤_, _<_}
+use Prim.Native.Nat.{ℕ, suc, _+_, _*_, _≤_, _<_}
 use native.Mathlib.Omega.{arith}
 use borrow.Author.Tests.{leb-true}
 use lib.Dec.{leb, eqb}
 use lib.ListN.{length, take, drop, length-append}
 use Rattle.rules.specs.Words.{byte, bytes}
-use Rattle.rules.specs.Refusals.{Answer, Gives, Refused, demand, unreadableLine, _then_}
-use Rattle.rules.specs.Kinds.{Kind, kR, kD, kH, kU, kE, kV, Fields}
-use Rattle.rules.specs.Listing.{Line, Way, letter, kindOfLetter, wayOfLetter, hasWay, readLine, dateBy, refusedText, dateText, requestText, lineEnd, lineOutput, onto, lines, joined, inputLimit, listing}
+use Rattle.rules.specs.Refusals.{Answer, unreadableLine}
+use Rattle.rules.specs.Kinds.{Kind, Fields}
+use Rattle.rules.specs.Listing.{Line, Way, letter, readLine, refusedText, dateText, requestText, lineEnd, lineOutput, onto, lines, joined, inputLimit, listing}
 use Rattle.rules.proofs.DecimalLaws.{one-digit}
 use Rattle.rules.proofs.LengthLaws.{text-lengths}
-use Rattle.rules.proofs.AnswerLaws.{Told, gives, refuses, Any, Small, Dated, told-demand, told-then, told-cond, date-told}
+use Rattle.rules.proofs.AnswerLaws.{Told, gives, refuses, Dated}
+use Rattle.rules.proofs.RefusalLaws.{RefusedBy, one-digit-by, date-told, Asked, told-request}
 
 -- ---- the first line
 
@@ -44,36 +45,15 @@ refused-long : (front n : ℕ) → n < 10 → length (refusedText front n) ≡ 1
 refused-long front n h = rw (one-digit n h)
 
 -- at most 33 bytes for a date
-date-long : (k : Kind) {a : Answer Fields} → Told Small (Dated k) a → length (dateText k a) ≤ 33
+date-long : (k : Kind) (w : Way) {a : Answer Fields} → Told (RefusedBy w) (Dated k) a → length (dateText k a) ≤ 33
 unfolding dateText
-date-long k (gives {a = f} p) = let t = text-lengths k f p in let d = t .dotted-length in let i = t .iso-length in simp length-append (omega arith)
-date-long k (refuses {n = n} h) = let e = refused-long (letter k) n h in omega arith
+date-long k w (gives {a = f} p) = let t = text-lengths k f p in let d = t .dotted-length in let i = t .iso-length in simp length-append (omega arith)
+date-long k w (refuses {n = n} r) = let e = refused-long (letter k) n (one-digit-by w n r) in omega arith
 
-request-long : (a : Answer Line) → Told Small Any a → length (requestText a) ≤ 33
+request-long : {a : Answer Line} → Told (λ n. n ≡ unreadableLine) Asked a → length (requestText a) ≤ 33
 unfolding requestText
-request-long (Gives l) o = date-long (l .kind) (date-told (l .way) (l .kind) (l .rest))
-request-long (Refused n) (refuses h) = let e = refused-long (byte "?") n h in omega arith
-
--- a line is read, or refused with 8
-eight : Small unreadableLine
-eight = omega arith
-
-told-kind : (b : ℕ) → Told Small Any (kindOfLetter b)
-unfolding kindOfLetter
-told-kind b =
-    told-cond (eqb b (letter kR)) (gives tt) (told-cond (eqb b (letter kD)) (gives tt) (told-cond (eqb b (letter kH)) (gives tt)
-    (told-cond (eqb b (letter kU)) (gives tt) (told-cond (eqb b (letter kE)) (gives tt) (told-cond (eqb b (letter kV)) (gives tt) (refuses eight))))))
-
-told-way : (b : ℕ) → Told Small Any (wayOfLetter b)
-unfolding wayOfLetter
-told-way b =
-    told-cond (eqb b (byte "t")) (gives tt) (told-cond (eqb b (byte "b")) (gives tt) (told-cond (eqb b (byte "g")) (gives tt) (refuses eight)))
-
-told-request : (a b c d : ℕ) (rest : List ℕ) → Told Small Any (readLine (a ∷ b ∷ c ∷ d ∷ rest))
-unfolding readLine
-told-request a b c d rest =
-    told-demand (eqb b (byte " ") && eqb d (byte " ")) unreadableLine eight
-    (told-then (told-kind a) (λ k. told-then (told-way c) (λ w. told-demand (hasWay k w) unreadableLine eight (gives tt))))
+request-long (gives {a = l} has) = date-long (l .kind) (l .way) (date-told (l .way) (l .kind) (l .rest) has)
+request-long (refuses {n = n} e) = let r = refused-long (byte "?") n (omega arith) in omega arith
 
 -- at most 12 for each byte
 pub output-long : (l : List ℕ) → length (lineOutput l) ≤ 12 * weight l
@@ -83,7 +63,7 @@ output-long (a ∷ []) = let e = refused-long (byte "?") 8 (omega arith) in simp
 output-long (a ∷ b ∷ []) = let e = refused-long (byte "?") 8 (omega arith) in simp length-append (omega arith)
 output-long (a ∷ b ∷ c ∷ []) = let e = refused-long (byte "?") 8 (omega arith) in simp length-append (omega arith)
 output-long (a ∷ b ∷ c ∷ d ∷ rest) =
-    let e = request-long (readLine (a ∷ b ∷ c ∷ d ∷ rest)) (told-request a b c d rest) in simp length-append (omega arith)
+    let e = request-long (told-request refl (a ∷ b ∷ c ∷ d ∷ rest)) in simp length-append (omega arith)
 
 -- ---- how long a listing is
 

@@ -1,5 +1,4 @@
 -- `request::date_by_text` meets its contract: what the kind's reader answers of the rest. Assumes nothing.
-use native.Mathlib.Omega.{arith}
 use mathlib.Core.Path.{_≡_, sym, ap, _∙_}
 use lib.ListN.{drop}
 use Rattle.rules.specs.Kinds.{store}
@@ -17,15 +16,15 @@ got c = rw (tail-lent (c .before .before .before .args .s .now) 4) at (c .parse 
 
 returns : tie.Need-returns
 unfolding dateBy
-returns c = (ap parsed (sym (c .before .parsed .given .1)) ∙ got (c .before .before .before), omega arith)
+returns c = ap parsed (sym (c .before .parsed .given .1)) ∙ got (c .before .before .before)
 
 returns-2 : tie.Need-returns-2
 unfolding dateBy
-returns-2 c = (ap parsed (sym (c .enum-told .given .1)) ∙ got (c .before .before), omega arith)
+returns-2 c = ap parsed (sym (c .enum-told .given .1)) ∙ got (c .before .before)
 
 returns-3 : tie.Need-returns-3
 unfolding dateBy
-returns-3 c = (ap parsed (sym (c .enum-told2 .given .1)) ∙ got (c .before .before), omega arith)
+returns-3 c = ap parsed (sym (c .enum-told2 .given .1)) ∙ got (c .before .before)
 
 pub date-by-text-spec : {M : Type 1} → statement M
 date-by-text-spec =

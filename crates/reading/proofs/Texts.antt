@@ -1,24 +1,25 @@
 -- A whole text, by the steps of each kind's reader: its length, its shape, its leading number, the rest. Assumes nothing.
 use mathlib.Core.Path.{_≡_, refl, sym, ap, _∙_}
-use mathlib.Core.Bool.{Bool, true, false, _&&_, and-false}
+use mathlib.Core.Bool.{Bool, true, false, and-false}
 use mathlib.Core.List.{List, [], _∷_}
 use Prim.Native.Nat.{ℕ, _≤_, _<_, _^_}
 use native.Mathlib.Omega.{arith}
-use borrow.Author.Tests.{le-leb, lt-leb, leb-false, ltb-true, ltb-false}
-use lib.Dec.{leb, ltb, eqb}
+use borrow.Author.Tests.{le-leb, leb-false, ltb-true, ltb-false}
+use lib.Dec.{leb, ltb}
 use lib.IntN.{ℤ, pos, natAbs}
 use lib.ListN.{length, drop}
-use lib.Signed.{leZ, mag}
+use lib.Signed.{mag}
 use mir.Syntax.{w64}
 use mir.Val.{toZ, ofZ, hbits}
-use Rattle.sign.specs.Halves.{up, dn}
+use Rattle.sign.specs.Halves.{dn}
 use Rattle.sign.proofs.Laws.{ints, one-side, yes-le, no-le}
 use Rattle.sign.proofs.Bits.{held}
-use Rattle.rules.specs.Words.{minus, withinZ, fits16, fits32, byte}
+use Rattle.rules.specs.Words.{minus, withinZ, fits16, fits32}
 use Rattle.rules.specs.Refusals.{Answer, Gives, Refused, RefusedAt, _then_, demand, tooLong, notText}
 use Rattle.rules.specs.Kinds.{Kind, Fields, Stored, ofKind, made, settled, store}
-use Rattle.rules.specs.Numbers.{numberFields}
-use Rattle.rules.specs.Text.{Read, isDigit, digitValue, notZeroFirst, atEnd, readsNumberTexts, afterDot, secondDigit, oneOrTwo, hourAfter, dottedPart, numberText, shapeAllowed, leading, textLimit, textFields, readText}
+use Rattle.rules.specs.Text.{Read, readsNumberTexts, numberText, shapeAllowed, leading, textLimit, textFields, readText}
+use Rattle.rules.proofs.AnswerLaws.{Told, gives, refuses, told-part}
+use Rattle.rules.proofs.RefusalLaws.{text-long}
 use Rattle.scalar.specs.Number.{most63, leadingNumber}
 use Rattle.scalar.specs.Views.{led}
 use Rattle.scalar.specs.declared.Leading.{Leading}
@@ -26,68 +27,19 @@ use Rattle.scalar.specs.declared.Leading.the-variants as L
 use Rattle.expanded.specs.Views.{answer}
 use Rattle.expanded.specs.declared.Made.{Made}
 
--- ---- answers that refuse with 2 alone
-
-data Only {A : Type 0} : Answer A → Type 0 where
-  gives : (a : A) → Only (Gives a)
-  refuses : Only (Refused notText)
-
-only-demand : {A : Type 0} (t : Bool) {x : Answer A} → Only x → Only (demand t notText x)
-only-demand true o = o
-only-demand false o = refuses
-
-only-dot : (s : List ℕ) → Only (afterDot s)
-unfolding afterDot
-only-dot [] = refuses
-only-dot (b ∷ s) = only-demand (eqb b (byte ".")) (gives s)
-
-only-digits : (s : List ℕ) → Only (oneOrTwo s)
-unfolding oneOrTwo
-only-digits [] = refuses
-only-digits (b ∷ s) = only-demand (isDigit b) (gives (secondDigit (digitValue b) s))
-
-only-then : {A B : Type 0} {x : Answer A} {next : A → Answer B} → Only x → ((a : A) → Only (next a)) → Only (x then next)
-only-then (gives a) h = h a
-only-then refuses h = refuses
-
-only-hour : (s : List ℕ) → Only (hourAfter s)
-unfolding hourAfter
-only-hour [] = gives 0
-only-hour (b ∷ s) =
-    only-then (only-dot (b ∷ s))
-    (λ h. only-demand (notZeroFirst h) (only-then (only-digits h) (λ hour. only-demand (atEnd (hour .rest)) (gives (hour .value)))))
-
--- fields of the year y, or a refusal with 2
-data OfYear (y : ℤ) : Answer Fields → Type 0 where
-  dated : (m d h : ℕ) → OfYear y (Gives (record { year = y; month = m; day = d; hour = h }))
-  none : OfYear y (Refused notText)
-
-year-then : {A : Type 0} {y : ℤ} {x : Answer A} {next : A → Answer Fields} → Only x → ((a : A) → OfYear y (next a)) → OfYear y (x then next)
-year-then (gives a) h = h a
-year-then refuses h = none
-
-dotted-year : (y : ℤ) (s : List ℕ) → OfYear y (dottedPart y s)
-unfolding dottedPart
-dotted-year y s =
-    year-then (only-dot s)
-    (λ m. year-then (only-digits m)
-    (λ month. year-then (only-dot (month .rest))
-    (λ d. year-then (only-digits d)
-    (λ day. year-then (only-hour (day .rest))
-    (λ hour. dated (month .value) (day .value) hour)))))
-
 -- ---- a leading number of more than 63 bits is no year and no number text
 
-year-out : (k : Kind) {y : ℤ} {x : Answer Fields} → OfYear y x → fits16 y ≡ false → (x then λ f. settled k notText f) ≡ Refused notText
+year-out : (k : Kind) {y : ℤ} {x : Answer Fields} → Told (λ n. n ≡ notText) (λ f. f .year ≡ y) x → fits16 y ≡ false
+    → (x then λ f. settled k notText f) ≡ Refused notText
 unfolding settled made ofKind
-year-out k (dated m d h) e = rw e
-year-out k none e = refl
+year-out k (gives p) e = rw (p, e)
+year-out k (refuses two) e = rw two
 
 text-out : (k : Kind) (y : ℤ) (rest : List ℕ) → fits16 y ≡ false → fits32 y ≡ false →
     (textFields k (record { value = y; rest = rest }) then λ f. settled k notText f) ≡ Refused notText
 unfolding textFields numberText
 text-out k y [] a b = rw (b, and-false (readsNumberTexts k))
-text-out k y (c ∷ s) a b = year-out k (dotted-year y (c ∷ s)) a
+text-out k y (c ∷ s) a b = year-out k (told-part refl y (c ∷ s)) a
 
 beyond : (y : ℤ) (lo hi : ℕ) → lo ≤ most63 → hi ≤ most63 → most63 < natAbs y → withinZ (minus lo) (pos hi) y ≡ false
 beyond y lo hi a b h = split (ltb 0 (dn y)) refl
@@ -135,8 +87,7 @@ module _ (k : Kind) (s : List ℕ) where
   textDate = store (readText k s)
 
   pub too-long : textLimit < length s → textDate ≡ Refused tooLong
-  unfolding readText
-  too-long h = rw (lt-leb (length s) textLimit h)
+  too-long h = ap store (text-long k s h)
 
   module _ (fits : length s ≤ textLimit) where
     pub shape-refused : shapeAllowed k s ≡ false → textDate ≡ Refused notText

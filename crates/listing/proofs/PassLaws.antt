@@ -3,16 +3,17 @@ use mathlib.Core.Path.{_≡_, refl, sym, ap, _∙_}
 use mathlib.Core.List.{List, [], _∷_, _++_, append-assoc}
 use Prim.Native.Nat.{ℕ, suc, _+_, _-_, _≤_, _<_}
 use native.Mathlib.Omega.{arith}
-use borrow.Author.Tests.{le-leb, lt-leb, eq-eqb, ne-eqb}
+use borrow.Author.Tests.{le-leb, lt-leb}
 use borrow.Rule.Slice.PartMut.{putMid}
-use lib.ListN.{length, getD, take, drop, length-append, length-drop, take-append-drop}
+use lib.ListN.{length, take, drop, length-append, length-drop, take-append-drop}
 use lib.Seq.{drop-drop, take-at, drop-at, length-take-le}
+use Rattle.bytes.specs.Bytes.{slice, indexOf}
 use Rattle.rules.specs.Words.{bytes}
 use Rattle.rules.specs.Refusals.{Gives}
 use Rattle.rules.specs.Spelling.{putAnswer, putBuffer}
 use Rattle.rules.specs.Listing.{lineOutput, lines, joined, lineEnd, inputLimit, listing}
-use Rattle.rules.proofs.Rests.{here, past}
-use Rattle.rules.proofs.LineLaws.{untilEnd, lines-first, listing-long}
+use Rattle.rules.proofs.Rests.{here, past, to-end}
+use Rattle.rules.proofs.LineLaws.{endOf, lines-first, listing-long}
 use Rattle.rules.proofs.ReadBack.{backOne}
 use Rattle.rules.proofs.WriteLaws.{tail-lent, tail-back}
 use Rattle.listing.specs.declared.Listed.{Listed}
@@ -21,29 +22,17 @@ use Rattle.listing.specs.Answers.{listed, lengthOf}
 use Rattle.listing.specs.Views.{printed}
 use Rattle.listing.proofs.LineTexts.{length-told}
 
--- ---- where a line ends
+-- ---- the first of the lines from a place on, which ends where the code finds byte 10
 
-pub ends-here : (s : List ℕ) (i : ℕ) → i < length s → getD s i 0 ≡ 10 → untilEnd (drop i s) ≡ 0
-unfolding untilEnd
-ends-here s i h e = rw (here s i h, eq-eqb (getD s i 0) 10 e)
-
-pub goes-on : (s : List ℕ) (i : ℕ) → i < length s → (getD s i 0 ≡ 10 → ⊥) → untilEnd (drop i s) ≡ suc (untilEnd (drop (i + 1) s))
-unfolding untilEnd
-goes-on s i h e = rw (here s i h, ne-eqb (getD s i 0) 10 e)
-
-pub ends-with : (s : List ℕ) (i : ℕ) → length s ≤ i → untilEnd (drop i s) ≡ 0
-unfolding untilEnd
-ends-with s i h = rw (past s i h)
-
--- ---- the first of the lines from a place on
-
-first-of : (x : List ℕ) {b : ℕ} {t : List ℕ} → x ≡ b ∷ t → lines x ≡ take (untilEnd x) x ∷ lines (drop (suc (untilEnd x)) x)
+first-of : (x : List ℕ) {b : ℕ} {t : List ℕ} → x ≡ b ∷ t → lines x ≡ take (endOf x) x ∷ lines (drop (suc (endOf x)) x)
 first-of x {b} {t} e = rw e (lines-first b t)
 
-pub line-at : (s : List ℕ) (i j : ℕ) → i < length s → j ≡ i + untilEnd (drop i s) → lines (drop i s) ≡ take (j - i) (drop i s) ∷ lines (drop (j + 1) s)
+pub line-at : (s : List ℕ) (i j : ℕ) → i < length s → j ≡ i + indexOf 10 (slice i (length s) s)
+    → lines (drop i s) ≡ take (j - i) (drop i s) ∷ lines (drop (j + 1) s)
 line-at s i j h e =
-    let k : untilEnd (drop i s) ≡ j - i = omega (arith, e) in
-    let n : i + suc (j - i) ≡ j + 1 = omega (arith, e) in
+    let f = rw (to-end s i) at e in
+    let k : endOf (drop i s) ≡ j - i = omega (arith, f) in
+    let n : i + suc (j - i) ≡ j + 1 = omega (arith, f) in
     first-of (drop i s) (here s i h) ∙ rw (k, drop-drop, n)
 
 -- what the lines print, when the first of them is known

@@ -1,28 +1,11 @@
 // The two passes over the lines of an input: the first measures what they print, the second writes it.
 ghost use mathlib.Core.Path.{_≡_};
-ghost use mathlib.Core.List.{_∷_};
-ghost use Prim.Native.Nat.{_+_, _-_, _≤_, _<_};
-ghost use lib.ListN.{length, take, drop};
-ghost use Rattle.rules.specs.Listing.{lineOutput, lines, inputLimit};
+ghost use Prim.Native.Nat.{_≤_};
+ghost use lib.ListN.{length};
+ghost use Rattle.rules.specs.Listing.{lineOutput, inputLimit};
 ghost use Rattle.digits.specs.Places.{placed};
 ghost use Rattle.listing.specs.Views.{printed};
 use crate::Listed;
-
-// Where the line that begins at a place ends: at the first line end from there on, or with the input.
-fn line_end(s: &[u8], at: usize) -> usize
-    requires { ⌜ at < length (now s) ⌝ }
-    ensures { λ r. ⌜ (at ≤ r) × (r ≤ length (now (s .entry))) ⌝ }
-    ensures { λ r. ⌜ lines (drop at (now (s .entry))) ≡ take (r - at) (drop at (now (s .entry))) ∷ lines (drop (r + 1) (now (s .entry))) ⌝ }
-{
-    let mut end = at;
-    while end < s.len() {
-        if s[end] == crate::LINE_END {
-            return end;
-        }
-        end += 1;
-    }
-    end
-}
 
 // How many bytes the lines of an input print.
 pub(crate) fn measure(s: &[u8]) -> usize
@@ -33,7 +16,7 @@ pub(crate) fn measure(s: &[u8]) -> usize
     let mut total = 0;
     let mut at = 0;
     while at < s.len() {
-        let end = line_end(s, at);
+        let end = bytes::scan::find(s, at, s.len(), crate::LINE_END);
         total += crate::build(&s[at..end], &mut room);
         at = end + 1;
     }
@@ -61,7 +44,7 @@ pub(crate) fn put_lines(s: &[u8], out: &mut [u8])
     let mut from = 0;
     let mut filled = 0;
     while from < s.len() {
-        let end = line_end(s, from);
+        let end = bytes::scan::find(s, from, s.len(), crate::LINE_END);
         filled += put_line(&s[from..end], &mut out[filled..]);
         from = end + 1;
     }

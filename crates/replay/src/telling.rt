@@ -39,20 +39,9 @@ fn signed(n: Halves) {
 
 // ---- the question
 
-// The length of a row without its line end.
-fn text_length(row: &[u8]) -> usize
-    ensures { λ r. ⌜ r ≤ length (now (row .entry)) ⌝ }
-{
-    if 0 < row.len() {
-        if row[row.len() - 1] == b'\n' {
-            return row.len() - 1;
-        }
-    }
-    row.len()
-}
-
+// A row without its line end.
 fn question(row: &[u8]) {
-    let n = text_length(row);
+    let n = bytes::scan::find(row, 0, row.len(), b'\n');
     print(&row[..n]);
 }
 

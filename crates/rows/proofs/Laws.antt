@@ -2,15 +2,16 @@
 use mathlib.Core.Path.{_≡_, refl}
 use mathlib.Core.Bool.{Bool, true, false}
 use mathlib.Core.List.{List}
-use Prim.Native.Nat.{ℕ, suc, _+_, _*_, _-_, _^_, _≤_, _<_}
+use Prim.Native.Nat.{ℕ, _+_, _*_, _-_, _^_, _≤_, _<_, min}
 use native.Mathlib.Nat.{one-le-pow, le-mul-of-pos-right}
 use native.Mathlib.Omega.{arith}
 use lib.Dec.{leb, lit<}
-use lib.ListN.{length, getD, drop}
-use borrow.Author.Tests.{le-leb, lt-leb, leb-true, leb-false, eq-eqb, ne-eqb}
+use lib.ListN.{length, getD, drop, length-drop}
+use borrow.Author.Tests.{le-leb, lt-leb, leb-true, leb-false}
+use Rattle.bytes.specs.Bytes.{slice, indexOf}
 use Rattle.rules.specs.Refusals.{Gives, Refused, _then_, demand, notText}
 use Rattle.rules.specs.Text.{Read, digits, afterDigits, atEnd}
-use Rattle.rules.proofs.Rests.{here, past}
+use Rattle.rules.proofs.Rests.{here, past, to-end}
 use Rattle.scalar.specs.Number.{most63, valueFrom, partialOf}
 use Rattle.scalar.proofs.Laws.{goes-on, stops-low, stops-high, stops-end}
 use Rattle.rows.specs.Rows.{afterByte, afterWord, mostOfRow, rowDigits, rowLength}
@@ -71,14 +72,7 @@ digit-too-large v s h =
 
 -- ---- the rows of a file
 
-pub row-ends : (s : List ℕ) (i : ℕ) → i < length s → getD s i 0 ≡ 10 → rowLength (drop i s) ≡ 1
+-- the row from a place on, by where byte 10 is found from there
+pub row-from : (s : List ℕ) (i : ℕ) → rowLength (drop i s) ≡ min (indexOf 10 (slice i (length s) s) + 1) (length s - i)
 unfolding rowLength
-row-ends s i h e = rw (here s i h, eq-eqb (getD s i 0) 10 e)
-
-pub row-goes-on : (s : List ℕ) (i : ℕ) → i < length s → (getD s i 0 ≡ 10 → ⊥) → rowLength (drop i s) ≡ suc (rowLength (drop (i + 1) s))
-unfolding rowLength
-row-goes-on s i h e = rw (here s i h, ne-eqb (getD s i 0) 10 e)
-
-pub row-over : (s : List ℕ) (i : ℕ) → length s ≤ i → rowLength (drop i s) ≡ 0
-unfolding rowLength
-row-over s i h = rw (past s i h)
+row-from s i = rw (to-end s i, length-drop)

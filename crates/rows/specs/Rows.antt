@@ -1,10 +1,12 @@
 -- A row, read from its start. Each reader answers what it read and the rest of the row. One that does not find its part leaves
 -- nothing, and in nothing no reader finds a part: so a row that is not as it is read never comes to its line end. Assumes nothing.
-use Prim.Native.Nat.{ℕ, suc}
+use Prim.Native.Nat.{ℕ, _+_, min}
 use mathlib.Core.Bool.{Bool, false, cond, _&&_}
 use mathlib.Core.List.{List, [], _∷_}
 use lib.Dec.{leb, eqb}
 use lib.IntN.{ℤ, pos, subℕ}
+use lib.ListN.{length}
+use Rattle.bytes.specs.Bytes.{indexOf}
 use Rattle.rules.specs.Words.{byte}
 use Rattle.rules.specs.Refusals.{Answer, Gives, Refused, RefusedAt, _then_, demand, notText}
 use Rattle.rules.specs.Text.{Read, isDigit, atEnd}
@@ -84,7 +86,6 @@ wholeOf s = whole (signedOf s)
 
 -- ---- the length of a row
 
--- how many bytes the first row has, its line end included
+-- how many bytes the first row has: up to its line end and with it, or all where it lacks one
 unfoldable pub rowLength : List ℕ → ℕ
-rowLength [] = 0
-rowLength (b ∷ s) = cond (eqb b 10) 1 (suc (rowLength s))
+rowLength s = min (indexOf 10 s + 1) (length s)

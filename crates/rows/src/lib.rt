@@ -27,14 +27,14 @@ pub fn next_line(s: &[u8], from: usize) -> usize
     ensures { λ r. ⌜ r ≡ from + rowLength (drop from (now (s .entry))) ⌝ }
     ensures { λ r. ⌜ (from < length (now (s .entry)) → (from < r) × (r ≤ length (now (s .entry)))) ⌝ }
 {
-    let mut at = from;
-    while at < s.len() {
-        if s[at] == b'\n' {
-            return at + 1;
-        }
-        at += 1;
+    if s.len() <= from {
+        return from;
     }
-    at
+    let end = bytes::scan::find(s, from, s.len(), b'\n');
+    if end < s.len() {
+        return end + 1;
+    }
+    end
 }
 
 // The byte at a place, 0 past the end.

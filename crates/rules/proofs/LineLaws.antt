@@ -7,6 +7,7 @@ use native.Mathlib.Omega.{arith}
 use borrow.Author.Tests.{leb-true}
 use lib.Dec.{leb, eqb}
 use lib.ListN.{length, take, drop, length-append}
+use Rattle.bytes.specs.Bytes.{indexAfter, indexOf}
 use Rattle.rules.specs.Words.{byte, bytes}
 use Rattle.rules.specs.Refusals.{Answer, unreadableLine}
 use Rattle.rules.specs.Kinds.{Kind, Fields}
@@ -18,19 +19,19 @@ use Rattle.rules.proofs.RefusalLaws.{RefusedBy, one-digit-by, date-told
 
 -- ---- the first line
 
--- how many bytes stand before the first byte 10, or in all
-unfoldable pub untilEnd : List ℕ → ℕ
-untilEnd [] = 0
-untilEnd (b ∷ s) = cond (eqb b 10) 0 (suc (untilEnd s))
+-- the place of a text's first byte 10, or its length
+abbrev pub endOf : List ℕ → ℕ
+endOf s = indexOf 10 s
 
-first-step : (b : ℕ) (s : List ℕ) (t : Bool) → onto b (lines s) ≡ (b ∷ take (untilEnd s) s) ∷ lines (drop (suc (untilEnd s)) s)
-    → cond t ([] ∷ lines s) (onto b (lines s)) ≡ take (cond t 0 (suc (untilEnd s))) (b ∷ s) ∷ lines (drop (suc (cond t 0 (suc (untilEnd s)))) (b ∷ s))
+first-step : (b : ℕ) (s : List ℕ) (t : Bool) → onto b (lines s) ≡ (b ∷ take (endOf s) s) ∷ lines (drop (suc (endOf s)) s)
+    → cond t ([] ∷ lines s) (onto b (lines s)) ≡ take (indexAfter t (endOf s)) (b ∷ s) ∷ lines (drop (suc (indexAfter t (endOf s))) (b ∷ s))
+unfolding indexAfter
 first-step b s true e = refl
 first-step b s false e = e
 
 -- the first line, and the lines after its end
-pub lines-first : (b : ℕ) (s : List ℕ) → lines (b ∷ s) ≡ take (untilEnd (b ∷ s)) (b ∷ s) ∷ lines (drop (suc (untilEnd (b ∷ s))) (b ∷ s))
-unfolding lines untilEnd onto
+pub lines-first : (b : ℕ) (s : List ℕ) → lines (b ∷ s) ≡ take (endOf (b ∷ s)) (b ∷ s) ∷ lines (drop (suc (endOf (b ∷ s))) (b ∷ s))
+unfolding lines indexOf onto
 lines-first b [] = first-step b [] (eqb b 10) refl
 lines-first b (c ∷ s) = first-step b (c ∷ s) (eqb b 10) (ap (onto b) (lines-first c s))
 

@@ -2,11 +2,13 @@
 -- The measure is what is left of the input. Assumes nothing.
 use borrow.Author.Needs.{needs}
 use native.Mathlib.Omega.{arith}
-use mathlib.Core.Path.{_≡_, refl, sym, ap, _∙_}
-use Prim.Native.Nat.{_+_, _≤_, _-_}
-use lib.ListN.{length, drop}
+use mathlib.Core.Path.{_≡_, refl, ap, _∙_}
+use mathlib.Core.List.{_∷_}
+use Prim.Native.Nat.{_+_, _-_}
+use lib.ListN.{length, take, drop}
+use Rattle.rules.specs.Listing.{lines}
 use Rattle.listing.specs.Views.{printed}
-use Rattle.listing.proofs.PassLaws.{measured, printed-none, printed-long}
+use Rattle.listing.proofs.PassLaws.{line-at, measured, printed-none, printed-long}
 use Rattle.listing.proofs.passes.measure.Statement.{statement}
 use Rattle.listing.proofs.passes.measure.Tie as tie
 
@@ -19,16 +21,23 @@ abbrev μ-loop : tie.MeasureT-loop
 loop-holds : tie.Need-loop-holds Inv-loop μ-loop
 loop-holds c = (omega arith, refl)
 
+-- the line that begins at the place, and the lines after its end
+line : (c : tie.After-find Inv-loop μ-loop) →
+    let s = c .before .before .before .before .args .s .now in
+    let at = c .before .before .loop .at in
+    lines (drop at s) ≡ take (c .find .result - at) (drop at s) ∷ lines (drop (c .find .result + 1) s)
+line c = line-at _ _ _ (c .before .loop-test .taken) (c .find .ensures .0)
+
 build-requires : tie.Need-build-requires Inv-loop μ-loop
 build-requires c κs = omega (arith, c .before .before .before .before .loop .inv .1)
 
 add-total : tie.Need-add-total Inv-loop μ-loop
 add-total c =
-    let h = printed-long (c .before .before .before .before .before .before .before .before .args .s .now) (c .before .before .before .before .before .before .before .before .pre) in let e = measured _ _ _ (c .before .before .before .before .before .before .loop .total) (c .before .build .result) _ (c .before .before .before .before .line-end .ensures .1) (c .before .build .ensures .0 .0) (c .before .before .before .before .before .before .loop .inv .0) in omega (arith, h, e)
+    let h = printed-long (c .before .before .before .before .before .before .before .before .args .s .now) (c .before .before .before .before .before .before .before .before .pre) in let e = measured _ _ _ (c .before .before .before .before .before .before .loop .total) (c .before .build .result) _ (line (c .before .before .before .before)) (c .before .build .ensures .0 .0) (c .before .before .before .before .before .before .loop .inv .0) in omega (arith, h, e)
 
 loop-again : tie.Need-loop-again Inv-loop μ-loop
 loop-again c =
-    (measured _ _ _ (c .before .before .before .before .before .before .loop .total) (c .before .build .result) _ (c .before .before .before .before .line-end .ensures .1) (c .before .build .ensures .0 .0) (c .before .before .before .before .before .before .loop .inv .0), c .before .build .kept .1 .0 ∙ c .before .before .before .before .before .before .loop .inv .1)
+    (measured _ _ _ (c .before .before .before .before .before .before .loop .total) (c .before .build .result) _ (line (c .before .before .before .before)) (c .before .build .ensures .0 .0) (c .before .before .before .before .before .before .loop .inv .0), c .before .build .kept .1 .0 ∙ c .before .before .before .before .before .before .loop .inv .1)
 
 returns : tie.Need-returns Inv-loop μ-loop
 returns c =

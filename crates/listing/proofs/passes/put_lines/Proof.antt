@@ -2,13 +2,14 @@
 -- the buffer would hold the whole. The measure is what is left of the input. Assumes nothing.
 use borrow.Author.Needs.{needs}
 use native.Mathlib.Omega.{arith}
-use mathlib.Core.Path.{_≡_, refl, sym, ap, _∙_}
-use Prim.Native.Nat.{_+_, _≤_, _-_}
-use lib.ListN.{length, take, drop, length-append}
-use Rattle.rules.specs.Listing.{lineOutput}
+use mathlib.Core.Path.{_≡_, refl, _∙_}
+use mathlib.Core.List.{_∷_}
+use Prim.Native.Nat.{_+_, _-_}
+use lib.ListN.{length, take, drop}
+use Rattle.rules.specs.Listing.{lineOutput, lines}
 use Rattle.digits.specs.Places.{placed}
 use Rattle.listing.specs.Views.{printed}
-use Rattle.listing.proofs.PassLaws.{Left, Step, left-step, left-room, step-kept, left-none, printed-first, printed-none}
+use Rattle.listing.proofs.PassLaws.{line-at, Left, Step, left-step, left-room, step-kept, left-none, printed-first, printed-none}
 use Rattle.listing.proofs.passes.put_lines.Statement.{statement}
 use Rattle.listing.proofs.passes.put_lines.Tie as tie
 
@@ -21,6 +22,13 @@ abbrev μ-loop : tie.MeasureT-loop
 loop-holds : tie.Need-loop-holds Inv-loop μ-loop
 loop-holds c = ((refl, omega (arith, c .before .before .pre)), refl)
 
+-- the line that begins at the place, and the lines after its end
+line : (c : tie.After-find Inv-loop μ-loop) →
+    let s = c .before .before .before .before .before .args .s .now in
+    let from = c .before .before .loop .from in
+    lines (drop from s) ≡ take (c .find .result - from) (drop from s) ∷ lines (drop (c .find .result + 1) s)
+line c = line-at _ _ _ (c .before .loop-test .taken) (c .find .ensures .0)
+
 sub-put-line-2 : tie.Need-sub-put-line-2 Inv-loop μ-loop
 sub-put-line-2 c = omega (arith, c .before .before .before .loop .inv .0 .1)
 
@@ -29,15 +37,15 @@ part-put-line-start-2 c = omega (arith, c .before .before .before .loop .inv .0 
 
 put-line-requires : tie.Need-put-line-requires Inv-loop μ-loop
 put-line-requires c κs =
-    left-room (c .before .before .before .before .loop .out) (lineOutput (take (c .before .before .line-end .result - c .before .before .before .before .loop .from) (drop (c .before .before .before .before .loop .from) (c .before .before .before .before .before .before .before .args .s .now)))) (printed (drop (c .before .before .line-end .result + 1) (c .before .before .before .before .before .before .before .args .s .now))) (c .before .before .before .before .loop .filled) (printed-first _ _ _ (c .before .before .line-end .ensures .1)) (c .before .before .before .before .loop .inv .0)
+    left-room (c .before .before .before .before .loop .out) (lineOutput (take (c .before .before .find .result - c .before .before .before .before .loop .from) (drop (c .before .before .before .before .loop .from) (c .before .before .before .before .before .before .before .args .s .now)))) (printed (drop (c .before .before .find .result + 1) (c .before .before .before .before .before .before .before .args .s .now))) (c .before .before .before .before .loop .filled) (printed-first _ _ _ (line (c .before .before))) (c .before .before .before .before .loop .inv .0)
 
 add-filled : tie.Need-add-filled Inv-loop μ-loop
 add-filled c =
-    let k = step-kept {text = lineOutput (take (c .before .before .before .before .before .line-end .result - c .before .before .before .before .before .before .before .loop .from) (drop (c .before .before .before .before .before .before .before .loop .from) (c .before .before .before .before .before .before .before .before .before .before .args .s .now)))} {rest = printed (drop (c .before .before .before .before .before .line-end .result + 1) (c .before .before .before .before .before .before .before .before .before .before .args .s .now))} (record { begins = printed-first _ _ _ (c .before .before .before .before .before .line-end .ensures .1); long = c .before .before .put-line .ensures .0; wrote = c .before .before .put-line .ensures .1; left = c .before .before .before .before .before .before .before .loop .inv .0 }) in omega (arith, k .1)
+    let k = step-kept {text = lineOutput (take (c .before .before .before .before .before .find .result - c .before .before .before .before .before .before .before .loop .from) (drop (c .before .before .before .before .before .before .before .loop .from) (c .before .before .before .before .before .before .before .before .before .before .args .s .now)))} {rest = printed (drop (c .before .before .before .before .before .find .result + 1) (c .before .before .before .before .before .before .before .before .before .before .args .s .now))} (record { begins = printed-first _ _ _ (line (c .before .before .before .before .before)); long = c .before .before .put-line .ensures .0; wrote = c .before .before .put-line .ensures .1; left = c .before .before .before .before .before .before .before .loop .inv .0 }) in omega (arith, k .1)
 
 loop-again : tie.Need-loop-again Inv-loop μ-loop
 loop-again c =
-    let s : Step (c .before .before .before .before .before .before .before .loop .out) (c .before .before .put-line .last .1 .0) (lineOutput (take (c .before .before .before .before .before .line-end .result - c .before .before .before .before .before .before .before .loop .from) (drop (c .before .before .before .before .before .before .before .loop .from) (c .before .before .before .before .before .before .before .before .before .before .args .s .now)))) (printed (drop (c .before .before .before .before .before .line-end .result + 1) (c .before .before .before .before .before .before .before .before .before .before .args .s .now))) _ _ (c .before .before .before .before .before .before .before .loop .filled) (c .before .before .put-line .result) = record { begins = printed-first _ _ _ (c .before .before .before .before .before .line-end .ensures .1); long = c .before .before .put-line .ensures .0; wrote = c .before .before .put-line .ensures .1; left = c .before .before .before .before .before .before .before .loop .inv .0 } in (left-step s, step-kept s .0 ∙ c .before .before .before .before .before .before .before .loop .inv .1)
+    let s : Step (c .before .before .before .before .before .before .before .loop .out) (c .before .before .put-line .last .1 .0) (lineOutput (take (c .before .before .before .before .before .find .result - c .before .before .before .before .before .before .before .loop .from) (drop (c .before .before .before .before .before .before .before .loop .from) (c .before .before .before .before .before .before .before .before .before .before .args .s .now)))) (printed (drop (c .before .before .before .before .before .find .result + 1) (c .before .before .before .before .before .before .before .before .before .before .args .s .now))) _ _ (c .before .before .before .before .before .before .before .loop .filled) (c .before .before .put-line .result) = record { begins = printed-first _ _ _ (line (c .before .before .before .before .before)); long = c .before .before .put-line .ensures .0; wrote = c .before .before .put-line .ensures .1; left = c .before .before .before .before .before .before .before .loop .inv .0 } in (left-step s, step-kept s .0 ∙ c .before .before .before .before .before .before .before .loop .inv .1)
 
 same-length : tie.Need-same-length Inv-loop μ-loop
 same-length c = c .before .loop .inv .1

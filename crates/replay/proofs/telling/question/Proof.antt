@@ -6,7 +6,7 @@ use Rattle.replay.proofs.telling.question.Statement.{statement}
 use Rattle.replay.proofs.telling.question.Tie as tie
 
 slice-aggregate-print : tie.Need-slice-aggregate-print
-slice-aggregate-print c = simp length-take (omega (arith, c .before .text-length .ensures))
+slice-aggregate-print c = simp length-take (omega (arith, c .before .find .ensures .1))
 
 pub question-spec : {M : Type 1} → statement M
 question-spec =

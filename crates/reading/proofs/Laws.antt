@@ -8,12 +8,13 @@ use lib.IntN.{ℤ, pos}
 use lib.Signed.{ltZ, leZ}
 use lib.ListN.{length, drop}
 use Rattle.sign.specs.Halves.{up, dn}
-use Rattle.sign.proofs.Laws.{ints, one-side, lt-false, le-by}
+use Rattle.sign.proofs.Laws.{ints, one-side, lt-false, le-by, le-true}
 use Rattle.rules.specs.Words.{minus, withinZ, fits16, fits32}
 use Rattle.rules.specs.Refusals.{Answer, Gives, Refused, _then_, demand, notText}
 use Rattle.rules.specs.Kinds.{Kind, Fields, Stored, ofKind, made, settled, store}
 use Rattle.rules.specs.Numbers.{numberFields}
 use Rattle.rules.specs.Text.{Read, atEnd, readsNumberTexts, numberText, dottedPart, textFields}
+use Rattle.rules.proofs.KindLaws.{left, right}
 use Rattle.rules.proofs.Rests.{here, past}
 
 -- ---- whether the leading number fits 16, or 32, bits
@@ -25,13 +26,19 @@ module _ (y : ℤ) (lo hi : ℕ) where
   pub too-high : ltZ (pos hi) y ≡ true → withinZ (minus lo) (pos hi) y ≡ false
   too-high e = rw (le-by (pos hi) y e, and-false (leZ (minus lo) y))
 
-  pub fits-both : ltZ y (minus lo) ≡ false → ltZ (pos hi) y ≡ false → withinZ (minus lo) (pos hi) y ≡ true
-  fits-both a b = rw (le-by y (minus lo) a, le-by (pos hi) y b)
-
   pub in-range : ltZ y (minus lo) ≡ false → ltZ (pos hi) y ≡ false → (up y ≤ hi) × (dn y ≤ lo)
   in-range a b =
       let l = simp ints at (lt-false y (minus lo) a) in
       omega (arith, l, lt-false (pos hi) y b, one-side y)
+
+  pub not-low : ltZ y (minus lo) ≡ false → withinZ (minus lo) (pos hi) y ≡ leZ y (pos hi)
+  not-low e = rw (le-by y (minus lo) e)
+
+  pub fits-in : withinZ (minus lo) (pos hi) y ≡ true → (up y ≤ hi) × (dn y ≤ lo)
+  fits-in e =
+      let l = simp ints at (le-true (minus lo) y (left (leZ (minus lo) y) (leZ y (pos hi)) e)) in
+      let h = le-true y (pos hi) (right (leZ (minus lo) y) (leZ y (pos hi)) e) in
+      omega (arith, l, h, one-side y)
 
 -- ---- a number text
 

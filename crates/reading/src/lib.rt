@@ -1,6 +1,7 @@
 // A text after its leading number, for every kind: nothing follows and it is a number text, or the dotted part follows.
 ghost use mathlib.Core.Path.{_≡_};
 ghost use lib.ListN.{drop};
+ghost use Rattle.rules.specs.Words.{fits32};
 ghost use Rattle.rules.specs.Refusals.{_then_, notText};
 ghost use Rattle.rules.specs.Kinds.{settled, store};
 ghost use Rattle.rules.specs.Text.{readsNumberTexts, numberText, dottedPart, textFields};
@@ -27,24 +28,29 @@ fn reads_number_texts(kind: Kind) -> bool
     }
 }
 
+// Whether 32 bits hold a number.
+pub fn fits32(value: i64) -> bool
+    ensures { λ r. ⌜ r ≡ fits32 value ⌝ }
+{
+    if value < -2147483648 {
+        return false;
+    }
+    value <= 2147483647
+}
+
 // A number text, its hour unchanged. The number must fit 32 bits.
 fn number_text(kind: Kind, value: i64) -> Made
     ensures { λ r. ⌜ answer notText r ≡ store (numberText (kindOf kind) value then λ f. settled (kindOf kind) notText f) ⌝ }
 {
     if reads_number_texts(kind) {
-        if value < -2147483648 {
-            return Made::None;
+        if fits32(value) {
+            let Numbered::Fields(f) = number::number_fields(sign::narrow32(value)) else {
+                return Made::None;
+            };
+            return expanded::settle(kind, f.year, f.month, f.day, f.hour);
         }
-        if 2147483647 < value {
-            return Made::None;
-        }
-        let Numbered::Fields(f) = number::number_fields(sign::narrow32(value)) else {
-            return Made::None;
-        };
-        expanded::settle(kind, f.year, f.month, f.day, f.hour)
-    } else {
-        Made::None
     }
+    Made::None
 }
 
 // The dotted part, after a year that must fit 16 bits.

@@ -42,13 +42,10 @@ fn few_digits(t: &[u8]) -> bool
 fn whole32(value: i64) -> Numeral
     ensures { λ r. ⌜ numeralOf r ≡ whole value ⌝ }
 {
-    if value < -2147483648 {
-        return Numeral::None;
+    if reading::fits32(value) {
+        return Numeral::Value(sign::narrow32(value));
     }
-    if 2147483647 < value {
-        return Numeral::None;
-    }
-    Numeral::Value(sign::narrow32(value))
+    Numeral::None
 }
 
 // A whole text as a number.

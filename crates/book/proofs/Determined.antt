@@ -5,24 +5,20 @@ use mathlib.Core.Bool.{cond}
 use Prim.Native.Nat.{ℕ}
 use lib.Dec.{eqb}
 use Rattle.rules.specs.Refusals.{Answer, Gives, Refused, RefusedAt, notOfKind, badLength, badVersion}
-use Rattle.rules.proofs.ReadBack.{Determines, determined, backOne}
+use Rattle.rules.proofs.ReadBack.{Determines, determined}
 use Rattle.expanded.specs.declared.Kind.{Kind}
 use Rattle.expanded.proofs.Determined.{packedOf, kindBack, kind-back}
 use Rattle.book.specs.declared.Checked.the-variants as C
 use Rattle.book.specs.declared.Found.{Found}
 use Rattle.book.specs.declared.Found.the-variants as F
 use Rattle.book.specs.declared.Appended.the-variants as A
-use Rattle.book.specs.declared.Started.the-variants as N
-use Rattle.book.specs.Views.{Bits, checkedAs, foundAs, appendedAs, startedAs}
+use Rattle.book.specs.Views.{Bits, checkedAs, foundAs, appendedAs}
 
 -- a value, the two refusals of a book's head, any other refusal, or the place of a bad record
 abbrev backBook : {A T : Type 0} → (A → T) → T → T → (ℕ → T) → (ℕ → T) → Answer A → T
 backBook value length version other bad (Gives a) = value a
 backBook value length version other bad (Refused n) = cond (eqb n badLength) length (cond (eqb n badVersion) version (other n))
 backBook value length version other bad (RefusedAt n place) = bad place
-
-pub started-determined : Determines startedAs
-started-determined = determined startedAs (backOne (λ n. N.Written) N.NoRoom) (λ r. elim r [ N.Written ↦ refl | N.NoRoom ↦ refl ])
 
 pub checked-determined : Determines checkedAs
 checked-determined =

@@ -1,44 +1,71 @@
--- The five bytes of a record: where they stand, and what they are by the tests that the code makes; and the records of a checked book.
--- Assumes nothing.
+-- The bytes of a record: where they stand, and what they are by the tests that the code makes; and the records of a checked book.
+-- Over the size of a record. Assumes nothing.
 use mathlib.Core.Path.{_≡_, refl, sym, ap, subst, _∙_}
 use mathlib.Core.Bool.{true, false}
 use mathlib.Core.List.{List, [], _∷_}
 use Prim.Native.Nat.{ℕ, _+_, _*_, _-_, _/_, _≤_, _<_}
+use native.Mathlib.Nat.{add-zero}
 use native.Mathlib.Omega.{arith}
 use lib.Dec.{T}
 use lib.IntN.{ℤ}
-use lib.ListN.{length, getD, take, drop}
+use lib.ListN.{length, getD, take, drop, length-drop}
+use lib.Seq.{getD-take, getD-drop, length-take-le}
 use Rattle.rules.specs.Words.{bigEndian, bigBytes}
 use Rattle.rules.specs.Refusals.{Answer, Gives, Refused, RefusedAt, given, notOfKind, noRecord}
 use Rattle.rules.specs.Kinds as K
 use Rattle.rules.specs.Kinds.{handedIn}
-use Rattle.rules.specs.Book.{kindCode, kindOfCode, yearOfTwos, entryBytes, Entry, entryOf, lengthSaid, check, today, entryAt, entryFor}
+use Rattle.rules.specs.Book.{Format, headSize, kindCode, kindOfCode, yearOfTwos, entryBytes, Entry, entryFrom, entryOf, lengthSaid, check, version1, entryAt, entryFor}
 use Rattle.rules.proofs.Rests as R
-use Rattle.rules.proofs.BookLaws.{Counted, checked, ends-inside, record-here, record-none, sound-here}
-use Rattle.rules.proofs.EntryLaws.{entry-for, today-sensible, entry-by}
+use Rattle.rules.proofs.FrameLaws.{Sensible}
+use Rattle.rules.proofs.BookLaws.{entry-by, Counted, counted, checked, ends-inside, record-here, record-none, sound-here}
+use Rattle.rules.proofs.EntryLaws.{entry-for}
 use Rattle.expanded.specs.declared.Kind.{Kind}
 use Rattle.expanded.specs.declared.Packed.{Packed}
 use Rattle.expanded.specs.Views.{kindOf}
 use Rattle.expanded.proofs.Laws.{handed-by, handed-word}
-use Rattle.book.specs.Views.{inBits, bytesOf}
+use Rattle.frame.specs.Views.{frameOf}
+use Rattle.book.specs.Views.{dateSize, leastSize, entrySized, bookOf, inBits, bytesOf}
 
--- byte by byte
-pub five-at : (s : List ℕ) (at : ℕ) → at + 5 ≤ length s →
-    take 5 (drop at s) ≡ getD s at 0 ∷ getD s (at + 1) 0 ∷ getD s (at + 2) 0 ∷ getD s (at + 3) 0 ∷ getD s (at + 4) 0 ∷ []
-five-at s at h =
-    let p : at + 1 + 1 ≡ at + 2 = omega arith in
-    let q : at + 2 + 1 ≡ at + 3 = omega arith in
-    let r : at + 3 + 1 ≡ at + 4 = omega arith in
-    rw (
-      R.here s at (omega arith),
-      R.here s (at + 1) (omega arith),
-      p,
-      R.here s (at + 2) (omega arith),
-      q,
-      R.here s (at + 3) (omega arith),
-      r,
-      R.here s (at + 4) (omega arith),
-    )
+-- ---- a record's bytes, where it stands in a list
+
+module _ (s : List ℕ) (at size : ℕ) (inside : at + size ≤ length s) where
+  abbrev piece : List ℕ
+  piece = take size (drop at s)
+
+  long : length piece ≡ size
+  long = length-take-le size (drop at s) (rw length-drop (omega arith))
+
+  byte-at : (i : ℕ) → i < size → getD piece i 0 ≡ getD s (at + i) 0
+  byte-at i h = rw (getD-take, getD-drop)
+
+  two-at : (i : ℕ) → i + 1 < size → take 2 (drop i piece) ≡ getD s (at + i) 0 ∷ getD s (at + i + 1) 0 ∷ []
+  two-at i h =
+      let l = long in
+      let e : at + (i + 1) ≡ at + i + 1 = omega arith in
+      rw (
+        R.here piece i (omega arith),
+        R.here piece (i + 1) (omega arith),
+        byte-at i (omega arith),
+        byte-at (i + 1) (omega arith),
+        e,
+      )
+
+  -- where its date stands
+  abbrev d : ℕ
+  d = at + size - dateSize
+
+  -- it is what the five bytes are that say its kind and its date
+  pub entry-at : leastSize ≤ size →
+      entrySized size piece ≡ entryOf (getD s at 0 ∷ getD s d 0 ∷ getD s (d + 1) 0 ∷ getD s (d + 2) 0 ∷ getD s (d + 3) 0 ∷ [])
+  unfolding entryFrom
+  entry-at h =
+      let f : getD piece 0 0 ≡ getD s at 0 = byte-at 0 (omega arith) ∙ rw add-zero in
+      let p : at + (size - dateSize) ≡ d = omega arith in
+      let q : at + (size - dateSize + 2) ≡ d + 2 = omega arith in
+      let r : d + 2 + 1 ≡ d + 3 = omega arith in
+      rw (f, two-at (size - dateSize) (omega arith), two-at (size - dateSize + 2) (omega arith), p, q, r)
+
+-- ---- what five bytes are, by the tests that the code makes
 
 pub given-bits : (x : Answer Entry) → given (inBits x) ≡ given x
 given-bits (Gives e) = refl
@@ -50,7 +77,7 @@ module _ (code y₁ y₀ w₁ w₀ : ℕ) where
   five = code ∷ y₁ ∷ y₀ ∷ w₁ ∷ w₀ ∷ []
 
   pub no-kind : kindOfCode code ≡ Refused notOfKind → inBits (entryOf five) ≡ Refused notOfKind
-  unfolding entryOf
+  unfolding entryFrom
   no-kind e = rw e
 
   module _ {k : K.Kind} (e : kindOfCode code ≡ Gives k) {year : ℤ} (y : year ≡ yearOfTwos (y₁ * 256 + y₀)) {word : ℕ} (w : word ≡ w₁ * 256 + w₀) where
@@ -59,11 +86,11 @@ module _ (code y₁ y₀ w₁ w₀ : ℕ) where
     two high low = omega arith
 
     pub of-kind : given (handedIn k year word) ≡ true → inBits (entryOf five) ≡ Gives (record { kind = k; date = record { year = year; word = word } })
-    unfolding entryOf
+    unfolding entryFrom
     of-kind g = rw (e, two y₁ y₀, two w₁ w₀, ← y, ← w, handed-by k year word g, handed-word k year word g)
 
     pub not-of-kind : given (handedIn k year word) ≡ false → inBits (entryOf five) ≡ Refused notOfKind
-    unfolding entryOf
+    unfolding entryFrom
     not-of-kind g = rw (e, two y₁ y₀, two w₁ w₀, ← y, ← w, handed-by k year word g)
 
 -- ---- the record of a date handed in
@@ -82,32 +109,49 @@ module _ (k : Kind) (d : Packed) where
   pub entry-not : given (handedIn (kindOf k) (d .year) (d .word)) ≡ false → entryFor (kindCode (kindOf k)) (d .year) (d .word) ≡ Refused notOfKind
   entry-not g = entry-for (kindOf k) (d .year) (d .word) ∙ rw (handed-by (kindOf k) (d .year) (d .word) g)
 
--- ---- a checked book
+-- ---- the format over the size
 
-module _ (s : List ℕ) (p : given (check today s) ≡ true) where
-  abbrev n : ℕ
-  n = (lengthSaid s - 1) / 5
+pub version1-is : bookOf 5 4096 1 ≡ version1
+version1-is = refl
 
-  has : Counted today today-sensible s n
-  has = checked today today-sensible s p
+module _ (size most version : ℕ) (some : leastSize ≤ size) (fits : 1 + most * size < 4294967296) where
+  pub sensible : Sensible (frameOf size most version)
+  sensible = record { some = omega arith; fits = fits }
 
-  pub head-stands : (5 ≤ length s) × (1 ≤ lengthSaid s)
-  head-stands = let h = has .holds .fits in let g = has .holds .says in (omega arith, omega arith)
+  abbrev format : Format Entry
+  format = bookOf size most version
 
-  module _ (i : ℕ) where
-    pub entry-past : n ≤ i → inBits (entryAt s i) ≡ Refused noRecord
-    entry-past l = ap inBits (entry-by s i (record-none today today-sensible s n has i l))
+  -- what a count tells
+  pub count-tells : (s : List ℕ) (n : ℕ) → check format s ≡ Gives n → (lengthSaid s ≡ 1 + n * size) × (headSize + n * size ≤ length s)
+  count-tells s n e =
+      let c = counted format sensible s n e in (rw (c .count) at (c .holds .frame .says), rw (c .count) at (c .holds .frame .fits))
 
-    -- the record at a place of it
-    module _ (l : i < n) where
-      abbrev here : List ℕ
-      here = take 5 (drop (5 + i * 5) s)
+  -- ---- a checked book
 
-      pub inside : 5 + i * 5 + 5 ≤ length s
-      inside = ends-inside today today-sensible s n has i l
+  module _ (s : List ℕ) (p : given (check format s) ≡ true) where
+    abbrev n : ℕ
+    n = (lengthSaid s - 1) / size
 
-      pub entry-here : inBits (entryAt s i) ≡ inBits (entryOf here)
-      entry-here = ap inBits (entry-by s i (record-here today today-sensible s n has i l))
+    has : Counted format sensible s n
+    has = checked format sensible s p
 
-      pub no-bad-one : Refused notOfKind ≡ inBits (entryOf here) → ⊥
-      no-bad-one e = subst T (sym (ap given e ∙ given-bits (entryOf here) ∙ sound-here today today-sensible s n has i l)) tt
+    pub head-stands : (headSize ≤ length s) × (1 ≤ lengthSaid s)
+    head-stands = let h = has .holds .frame .fits in let g = has .holds .frame .says in (omega arith, omega arith)
+
+    module _ (i : ℕ) where
+      pub entry-past : n ≤ i → inBits (entryAt format s i) ≡ Refused noRecord
+      entry-past l = ap inBits (entry-by format s i (record-none format sensible s n has i l))
+
+      -- the record at a place of it
+      module _ (l : i < n) where
+        abbrev here : List ℕ
+        here = take size (drop (headSize + i * size) s)
+
+        pub inside : headSize + i * size + size ≤ length s
+        inside = ends-inside format sensible s n has i l
+
+        pub entry-here : inBits (entryAt format s i) ≡ inBits (entrySized size here)
+        entry-here = ap inBits (entry-by format s i (record-here format sensible s n has i l))
+
+        pub no-bad-one : Refused notOfKind ≡ inBits (entrySized size here) → ⊥
+        no-bad-one e = subst T (sym (ap given e ∙ given-bits (entrySized size here) ∙ sound-here format sensible s n has i l)) tt

@@ -1,23 +1,42 @@
--- The code's answers as those of `rules`. Assumes nothing.
-use Prim.Native.Nat.{ℕ}
+-- The format of a book from the size of its records, and the code's answers as those of `rules`. Assumes nothing.
+use Prim.Native.Nat.{ℕ, _+_, _-_}
+use mathlib.Core.Bool.{Bool}
 use mathlib.Core.List.{List, _∷_, _++_}
 use Rattle.rules.specs.Words.{bigBytes}
-use Rattle.rules.specs.Refusals.{Answer, Gives, Refused, RefusedAt, _then_, notOfKind, badLength, badVersion, badRecord, noRoom, noRecord}
+use Rattle.rules.specs.Refusals.{Answer, Gives, Refused, RefusedAt, _then_, given, notOfKind, badLength, badVersion, badRecord, noRoom, noRecord}
 use Rattle.rules.specs.Kinds as K
 use Rattle.rules.specs.Book as B
 use Rattle.expanded.specs.declared.Kind.{Kind}
 use Rattle.expanded.specs.declared.Packed.{Packed}
 use Rattle.expanded.specs.Views.{kindOf, bitsOf}
+use Rattle.frame.specs.Views.{frameOf}
 use Rattle.book.specs.declared.Checked.{Checked}
 use Rattle.book.specs.declared.Checked.the-variants as C
 use Rattle.book.specs.declared.Found.{Found}
 use Rattle.book.specs.declared.Found.the-variants as F
 use Rattle.book.specs.declared.Appended.{Appended}
 use Rattle.book.specs.declared.Appended.the-variants as A
-use Rattle.book.specs.declared.Started.{Started}
-use Rattle.book.specs.declared.Started.the-variants as N
 use Rattle.book.specs.declared.slots.Slot.{Slot}
 use Rattle.book.specs.declared.slots.Slot.the-variants as S
+
+-- the bytes of a date: two of its year, two of its word
+abbrev pub dateSize : ℕ
+dateSize = 4
+
+-- the bytes of a record at least: its kind's and its date's
+abbrev pub leastSize : ℕ
+leastSize = 1 + dateSize
+
+-- what a record of so many bytes is: the kind's code in its first byte, the date in its last four
+abbrev pub entrySized : ℕ → List ℕ → Answer B.Entry
+entrySized size = B.entryFrom (size - dateSize)
+
+abbrev pub soundSized : ℕ → List ℕ → Bool
+soundSized size r = given (entrySized size r)
+
+-- records of so many bytes, at most so many of them, of that version; version 1 is this at 5, 4096 and 1
+abbrev pub bookOf : ℕ → ℕ → ℕ → B.Format B.Entry
+bookOf size most version = record { frame = frameOf size most version; entry = entrySized size }
 
 -- a record's kind, and its date as it is stored
 pub record Bits : Type 0 where
@@ -55,8 +74,3 @@ appendedAs A.BadLength = Refused badLength
 appendedAs A.BadVersion = Refused badVersion
 appendedAs (A.BadRecord place) = RefusedAt badRecord place
 appendedAs A.NoRoom = Refused noRoom
-
--- an empty book has no record
-abbrev pub startedAs : Started → Answer ℕ
-startedAs N.Written = Gives 0
-startedAs N.NoRoom = Refused noRoom

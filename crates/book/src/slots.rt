@@ -1,16 +1,21 @@
-// One record of a book: its five bytes are a kind's code, a year in two's complement and a packed word, the larger byte first.
+// One record of a book: a kind's code in its first byte; in its last four a year in two's complement and a packed word, the larger byte
+// first.
 ghost use mathlib.Core.Path.{_≡_};
 ghost use mathlib.Core.List.{[], _∷_};
 ghost use Prim.Native.Nat.{_+_, _*_, _≤_};
 ghost use lib.ListN.{length, take, drop};
 ghost use lib.Seq.{sets};
-ghost use Rattle.rules.specs.Book.{entryOf, today};
-ghost use Rattle.book.specs.Views.{bytesOf, slotAs, inBits};
+ghost use Rattle.rules.specs.Book.{entryOf};
+ghost use Rattle.book.specs.Views.{leastSize, entrySized, soundSized, bytesOf, slotAs, inBits};
+use crate::SIZE;
 use codes::Coded;
 use expanded::Kind;
 use expanded::Packed;
 
-// What five bytes are: a record of a date, or none.
+// The bytes of a date: two of its year, two of its word.
+const DATE_SIZE: usize = 4;
+
+// What a record's bytes are: a record of a date, or none.
 pub enum Slot {
     Record { kind: Kind, date: Packed },
     None,
@@ -40,36 +45,46 @@ fn slot_of(code: u8, y1: u8, y0: u8, w1: u8, w0: u8) -> Slot
     }
 }
 
-// The record whose five bytes start at `at`.
-pub fn slot_at(b: &[u8], at: usize) -> Slot
-    requires { ⌜ at + 5 ≤ length (now b) ⌝ }
-    ensures { λ r. ⌜ slotAs r ≡ inBits (entryOf (take 5 (drop at (now (b .entry))))) ⌝ }
+// The record whose bytes start at `at`.
+pub fn slot_at(b: &[u8], at: usize, size: usize) -> Slot
+    requires { ⌜ (leastSize ≤ size) × (at + size ≤ length (now b)) ⌝ }
+    ensures { λ r. ⌜ slotAs r ≡ inBits (entrySized size (take size (drop at (now (b .entry))))) ⌝ }
 {
-    slot_of(b[at], b[at + 1], b[at + 2], b[at + 3], b[at + 4])
+    let date = at + size - DATE_SIZE;
+    slot_of(b[at], b[date], b[date + 1], b[date + 2], b[date + 3])
 }
 
-pub fn sound_at(b: &[u8], at: usize) -> bool
-    requires { ⌜ at + 5 ≤ length (now b) ⌝ }
-    ensures { λ r. ⌜ r ≡ (today .sound) (take 5 (drop at (now (b .entry)))) ⌝ }
+pub fn sound_at(b: &[u8], at: usize, size: usize) -> bool
+    requires { ⌜ (leastSize ≤ size) × (at + size ≤ length (now b)) ⌝ }
+    ensures { λ r. ⌜ r ≡ soundSized size (take size (drop at (now (b .entry)))) ⌝ }
 {
-    let slot = slot_at(b, at);
+    let slot = slot_at(b, at, size);
     match slot {
         Slot::Record { kind: _, date: _ } => true,
         Slot::None => false,
     }
 }
 
-// Five bytes from `at` on: the record of a date.
-pub fn put_entry(b: &mut [u8], at: usize, kind: Kind, date: Packed)
-    requires { ⌜ at + 5 ≤ length (now b) ⌝ }
-    ensures { λ _. ⌜ now (b .exit) ≡ sets (now (b .entry)) at (bytesOf kind date) ⌝ }
+// The five bytes of version 1's record of a date.
+pub fn bytes_of(kind: Kind, date: Packed) -> [u8; SIZE]
+    ensures { λ r. ⌜ r ≡ bytesOf kind date ⌝ }
 {
     let code = codes::kind_code(kind);
     let year = codes::twos_complement(date.year);
     let word = date.word;
-    b[at] = code;
-    b[at + 1] = (year / 256) as u8;
-    b[at + 2] = (year % 256) as u8;
-    b[at + 3] = (word / 256) as u8;
-    b[at + 4] = (word % 256) as u8;
+    [
+        code,
+        (year / 256) as u8,
+        (year % 256) as u8,
+        (word / 256) as u8,
+        (word % 256) as u8,
+    ]
+}
+
+// A record's bytes from `at` on.
+pub fn put(b: &mut [u8], at: usize, piece: &[u8])
+    requires { ⌜ at + length (now piece) ≤ length (now b) ⌝ }
+    ensures { λ _. ⌜ now (b .exit) ≡ sets (now (b .entry)) at (now (piece .entry)) ⌝ }
+{
+    bytes::copy(piece, &mut b[at..]);
 }

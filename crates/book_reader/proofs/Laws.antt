@@ -8,33 +8,33 @@ use borrow.Author.Tests.{ltb-false}
 use lib.Dec.{ltb}
 use denote.Ref.{RefT}
 use Rattle.rules.specs.Refusals.{Answer, Gives, Refused, RefusedAt}
-use Rattle.rules.specs.Book.{check, recordAt, today, entryAt}
-use Rattle.rules.proofs.BookLaws.{counted, record-none, record-refused, record-bad}
-use Rattle.rules.proofs.EntryLaws.{today-sensible, entry-by}
+use Rattle.rules.specs.Book.{check, recordAt, version1, entryAt}
+use Rattle.rules.proofs.BookLaws.{entry-by, counted, record-none, record-refused, record-bad}
+use Rattle.rules.proofs.EntryLaws.{version1-sensible}
 use Rattle.book_reader.specs.Places.{placeAfter}
 use Rattle.book_reader.specs.declared.BookReader.{BookReader}
 
 -- past the most records that a book can have, every place has the same answer
-past-most : (s : List ℕ) (i j : ℕ) → today .most ≤ i → today .most ≤ j → recordAt today s i ≡ recordAt today s j
-past-most s i j p q = inner (check today s) refl
+past-most : (s : List ℕ) (i j : ℕ) → version1 .frame .most ≤ i → version1 .frame .most ≤ j → recordAt version1 s i ≡ recordAt version1 s j
+past-most s i j p q = inner (check version1 s) refl
   where
-    inner : (x : Answer ℕ) → check today s ≡ x → recordAt today s i ≡ recordAt today s j
+    inner : (x : Answer ℕ) → check version1 s ≡ x → recordAt version1 s i ≡ recordAt version1 s j
     inner (Gives n) e =
-        let c = counted today today-sensible s n e in
-        let m = c .holds .most in
+        let c = counted version1 version1-sensible s n e in
+        let m = c .holds .frame .most in
         let k = c .count in
-        record-none today today-sensible s n c i (omega arith) ∙ sym (record-none today today-sensible s n c j (omega arith))
-    inner (Refused n) e = record-refused today s n i e ∙ sym (record-refused today s n j e)
-    inner (RefusedAt n place) e = record-bad today s n place i e ∙ sym (record-bad today s n place j e)
+        record-none version1 version1-sensible s n c i (omega arith) ∙ sym (record-none version1 version1-sensible s n c j (omega arith))
+    inner (Refused n) e = record-refused version1 s n i e ∙ sym (record-refused version1 s n j e)
+    inner (RefusedAt n place) e = record-bad version1 s n place i e ∙ sym (record-bad version1 s n place j e)
 
-pub moved-on : (s : List ℕ) (place : ℕ) → entryAt s (placeAfter place) ≡ entryAt s (place + 1)
-moved-on s place = inner (ltb place (today .most)) refl
+pub moved-on : (s : List ℕ) (place : ℕ) → entryAt version1 s (placeAfter place) ≡ entryAt version1 s (place + 1)
+moved-on s place = inner (ltb place (version1 .frame .most)) refl
   where
-    inner : (t : Bool) → ltb place (today .most) ≡ t → entryAt s (cond t (place + 1) place) ≡ entryAt s (place + 1)
+    inner : (t : Bool) → ltb place (version1 .frame .most) ≡ t → entryAt version1 s (cond t (place + 1) place) ≡ entryAt version1 s (place + 1)
     inner true e = refl
     inner false e =
-        let h : today .most ≤ place = ltb-false place (today .most) e in
-        entry-by s place (past-most s place (place + 1) h (omega arith)) ∙ sym (entry-by s (place + 1) refl)
+        let h : version1 .frame .most ≤ place = ltb-false place (version1 .frame .most) e in
+        entry-by version1 s place (past-most s place (place + 1) h (omega arith)) ∙ sym (entry-by version1 s (place + 1) refl)
 
 pub reader-determined : (book : RefT (List ℕ)) (place : ℕ) (r q : BookReader) →
     (r .book ≡ book) × (r .place ≡ place) → (q .book ≡ book) × (q .place ≡ place) → r ≡ q

@@ -2,8 +2,8 @@
 use Prim.Native.Nat.{ℕ, _+_}
 use mathlib.Core.Bool.{cond}
 use lib.Dec.{ltb}
-use Rattle.rules.specs.Book.{today}
+use Rattle.rules.specs.Book.{version1}
 
 -- the next one; from the most records of a book on, where no place has a record, the same
 abbrev pub placeAfter : ℕ → ℕ
-placeAfter place = cond (ltb place (today .most)) (place + 1) place
+placeAfter place = cond (ltb place (version1 .frame .most)) (place + 1) place

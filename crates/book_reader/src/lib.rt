@@ -1,13 +1,10 @@
 // A reader that holds a book and a place in it. Each function takes the struct apart, or puts it together, and leaves the work to one
 // over a slice and a place. Callers who hold a slice use `next_at`.
 ghost use mathlib.Core.Path.{_≡_};
-ghost use Rattle.rules.specs.Book.{entryAt};
+ghost use Rattle.rules.specs.Book.{entryAt, version1};
 ghost use Rattle.book.specs.Views.{foundAs, inBits};
 ghost use Rattle.book_reader.specs.Places.{placeAfter};
 use book::Found;
-
-// No book has more records, so that every place from here on is past the last.
-const MOST_RECORDS: usize = 4096;
 
 pub struct BookReader<'a> {
     pub book: &'a [u8],
@@ -23,7 +20,7 @@ pub fn start<'a>(book: &'a [u8], place: usize) -> BookReader<'a>
 
 // The record at the reader's place, or why there is none.
 pub fn next<'a>(reader: BookReader<'a>) -> Found
-    ensures { λ r. ⌜ foundAs r ≡ inBits (entryAt (now (reader .entry .book)) (reader .entry .place)) ⌝ }
+    ensures { λ r. ⌜ foundAs r ≡ inBits (entryAt version1 (now (reader .entry .book)) (reader .entry .place)) ⌝ }
 {
     book::record_at(reader.book, reader.place)
 }
@@ -32,7 +29,7 @@ pub fn next<'a>(reader: BookReader<'a>) -> Found
 pub fn place_after(place: usize) -> usize
     ensures { λ r. ⌜ r ≡ placeAfter place ⌝ }
 {
-    if place < MOST_RECORDS {
+    if place < book::MOST {
         return place + 1;
     }
     place
@@ -50,7 +47,7 @@ pub fn after<'a>(reader: BookReader<'a>) -> BookReader<'a>
 
 // What a reader at the place gives next. Its parameters are a slice and a number, so that callers need no proof by hand.
 pub fn next_at(book: &[u8], place: usize) -> Found
-    ensures { λ r. ⌜ foundAs r ≡ inBits (entryAt (now (book .entry)) place) ⌝ }
+    ensures { λ r. ⌜ foundAs r ≡ inBits (entryAt version1 (now (book .entry)) place) ⌝ }
 {
     next(start(book, place))
 }

@@ -2,7 +2,7 @@
 use Prim.Native.Nat.{ℕ}
 use mathlib.Core.List.{List}
 use Rattle.rules.specs.Refusals.{Answer, Gives, Refused, RefusedAt, _then_, badRecord}
-use Rattle.rules.specs.Book.{check, entryAt, appendAnswer, appendBuffer, newAnswer, newBuffer, kindCode, today, entryFor}
+use Rattle.rules.specs.Book.{check, entryAt, appendAnswer, appendBuffer, newAnswer, newBuffer, kindCode, version1, entryFor}
 use Rattle.expanded.specs.Views.{kindOf, bitsOf}
 use Rattle.book.specs.Views.{Bits, inBits}
 use Rattle.book_run.specs.declared.operations.Operation.{Operation}
@@ -25,13 +25,13 @@ toldAs (T.BadRecord place) = RefusedAt badRecord place
 
 abbrev pub answerOf : Operation → List ℕ → Answer Value
 answerOf O.New s = newAnswer s then λ n. Gives Done
-answerOf O.Check s = check today s then λ n. Gives (Number n)
-answerOf (O.Record place) s = inBits (entryAt s place) then λ b. Gives (Recorded b)
-answerOf (O.Append k d) s = appendAnswer today (entryFor (kindCode (kindOf k)) (d .year) (d .word)) s then λ n. Gives (Number n)
+answerOf O.Check s = check version1 s then λ n. Gives (Number n)
+answerOf (O.Record place) s = inBits (entryAt version1 s place) then λ b. Gives (Recorded b)
+answerOf (O.Append k d) s = appendAnswer version1 (entryFor (kindCode (kindOf k)) (d .year) (d .word)) s then λ n. Gives (Number n)
 
 -- only new and append change the buffer
 abbrev pub bufferOf : Operation → List ℕ → List ℕ
-bufferOf O.New s = newBuffer today s
+bufferOf O.New s = newBuffer (version1 .frame .version) s
 bufferOf O.Check s = s
 bufferOf (O.Record place) s = s
-bufferOf (O.Append k d) s = appendBuffer today (entryFor (kindCode (kindOf k)) (d .year) (d .word)) s
+bufferOf (O.Append k d) s = appendBuffer version1 (entryFor (kindCode (kindOf k)) (d .year) (d .word)) s

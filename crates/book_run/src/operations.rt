@@ -1,14 +1,15 @@
 // The book's operations, and what each answers in one type.
 ghost use mathlib.Core.Path.{_≡_};
 ghost use Rattle.rules.specs.Refusals.{Gives, _then_};
-ghost use Rattle.book.specs.Views.{startedAs, checkedAs, foundAs, appendedAs};
+ghost use Rattle.frame.specs.Views.{startedAs};
+ghost use Rattle.book.specs.Views.{checkedAs, foundAs, appendedAs};
 ghost use Rattle.book_run.specs.Operations.{Done, Number, Recorded, toldAs, answerOf, bufferOf};
 use book::Appended;
 use book::Checked;
 use book::Found;
-use book::Started;
 use expanded::Kind;
 use expanded::Packed;
+use frame::Started;
 
 pub(crate) enum Operation {
     New,

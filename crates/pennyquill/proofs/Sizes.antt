@@ -12,7 +12,7 @@ use Rattle.rules.specs.Words.{within, bigEndian}
 use Rattle.rules.specs.Refusals.{Answer, Gives, Refused, RefusedAt, _then_, demand, badRecord}
 use Rattle.rules.specs.Kinds.{Kind, Fields, ofKind, made, unpacked, handedIn}
 use Rattle.rules.specs.Spelling.{dotted, iso, hasIsoDate, isoDateAlone, exchange, putAnswer}
-use Rattle.rules.specs.Book.{lengthSize, headSize, kindOfCode, lengthSaid, versionOf, recordsIn, firstBad, allSound, records, check, pick, recordAt, appendAnswer, yearOfTwos, entryOf, today, entryAt, entryFor}
+use Rattle.rules.specs.Book.{lengthSize, headSize, kindOfCode, lengthSaid, versionOf, framed, firstBad, allPass, records, check, pick, recordAt, appendAnswer, yearOfTwos, entryFrom, entryOf, version1, entryAt, entryFor, soundBy}
 use Rattle.rules.proofs.KindLaws.{high}
 use Rattle.rules.proofs.LengthLaws.{text-lengths}
 use Rattle.rules.proofs.PieceLaws.{piece-count}
@@ -109,42 +109,47 @@ module _ (k : Kind) (year : ℤ) (word : ℕ) (buffer : List ℕ) where
 abbrev FewRecords : List (List ℕ) → Type 0
 FewRecords rs = length rs ≤ 4096
 
-sound-small : (rs : List (List ℕ)) → FewRecords rs → Small FewRecords (allSound today rs)
-unfolding allSound
-sound-small rs few = inner (ltb (firstBad (today .sound) rs) (length rs)) refl
+pass-small : (n : ℕ) (test : List ℕ → Bool) (rs : List (List ℕ)) → FewRecords rs → Small FewRecords (allPass n test rs)
+unfolding allPass
+pass-small n test rs few = inner (ltb (firstBad test rs) (length rs)) refl
   where
-    inner : (t : Bool) → ltb (firstBad (today .sound) rs) (length rs) ≡ t →
-        Small FewRecords (cond t (RefusedAt badRecord (firstBad (today .sound) rs)) (Gives rs))
-    inner true p = let h = ltb-true (firstBad (today .sound) rs) (length rs) p in omega arith
+    inner : (t : Bool) → ltb (firstBad test rs) (length rs) ≡ t → Small FewRecords (cond t (RefusedAt n (firstBad test rs)) (Gives rs))
+    inner true p = let h = ltb-true (firstBad test rs) (length rs) p in omega arith
     inner false p = few
 
 module _ (s : List ℕ) where
-  records-small : Small FewRecords (records today s)
-  unfolding records recordsIn
-  records-small =
+  framed-small : Small FewRecords (framed (version1 .frame) s)
+  unfolding framed
+  framed-small =
       let next = small-demand FewRecords in
       next (leb headSize (length s)) _ _ (λ head.
       next (within 1 20481 (lengthSaid s)) _ _ (λ said.
       next (leb (lengthSaid s + lengthSize) (length s)) _ _ (λ fits.
       next (eqb (versionOf s) 1) _ _ (λ version.
       next (eqb ((lengthSaid s - 1) % 5) 0) _ _ (λ even.
-      sound-small (recordsIn today s)
       (let n = piece-count ((lengthSaid s - 1) / 5) 5 (drop 5 s) in let most = high 1 20481 (lengthSaid s) said in omega arith))))))
 
-  pub check-small : numberOf (check today s) ≤ 4096
-  unfolding check
-  check-small =
-      small-number (check today s) (small-then FewRecords Few (records today s) _ records-small (λ rs few. few))
+  records-small : Small FewRecords (records version1 s)
+  unfolding records
+  records-small =
+      small-then FewRecords FewRecords (framed (version1 .frame) s) _ framed-small (λ rs few. pass-small badRecord (soundBy version1) rs few)
 
-  pub append-small : (code : ℕ) (year : ℤ) (word : ℕ) → numberOf (appendAnswer today (entryFor code year word) s) ≤ 4096
+  few-checked : Small Few (check version1 s)
+  unfolding check
+  few-checked = small-then FewRecords Few (records version1 s) _ records-small (λ rs few. few)
+
+  pub check-small : numberOf (check version1 s) ≤ 4096
+  check-small = small-number (check version1 s) few-checked
+
+  pub append-small : (code : ℕ) (year : ℤ) (word : ℕ) → numberOf (appendAnswer version1 (entryFor code year word) s) ≤ 4096
   unfolding appendAnswer entryFor
   append-small code year word =
-      small-number (appendAnswer today (entryFor code year word) s)
+      small-number (appendAnswer version1 (entryFor code year word) s)
       (small-then Any Few (entryFor code year word) _
       (small-then Any Any (kindOfCode code) _ (code-small code)
       (λ k any. small-then (λ f. ofKind k f ≡ true) Any (handedIn k year word) _ (handed-small k year word) (λ f p. tt)))
-      (λ r any. small-then FewRecords Few (records today s) _ records-small
-      (λ rs few. small-demand Few (ltb (length rs) 4096 && leb (lengthSaid s + lengthSize + 5) (length s)) _ _ (λ room. few))))
+      (λ r any. small-then Few Few (check version1 s) _ few-checked
+      (λ n few. small-demand Few (ltb n 4096 && leb (lengthSaid s + lengthSize + 5) (length s)) _ _ (λ room. few))))
 
   pick-small : (rs : List (List ℕ)) (place : ℕ) → Small Any (pick rs place)
   unfolding pick
@@ -153,18 +158,18 @@ module _ (s : List ℕ) where
   pick-small (r ∷ rs) (suc place) = pick-small rs place
 
   entry-small : (r : List ℕ) → Small Any (entryOf r)
-  unfolding entryOf
+  unfolding entryFrom
   entry-small r =
       let year = yearOfTwos (bigEndian (take 2 (drop 1 r))) in
       let word = bigEndian (take 2 (drop 3 r)) in
       small-then Any Any (kindOfCode (getD r 0 0)) _ (code-small (getD r 0 0))
       (λ k any. small-then (λ f. ofKind k f ≡ true) Any (handedIn k year word) _ (handed-small k year word) (λ f p. tt))
 
-  pub record-small : (place : ℕ) → placeOf (inBits (entryAt s place)) ≤ 4096
+  pub record-small : (place : ℕ) → placeOf (inBits (entryAt version1 s place)) ≤ 4096
   unfolding entryAt recordAt
   record-small place =
-      small-place (inBits (entryAt s place))
-      (small-then Any Any (entryAt s place) _
-      (small-then Any Any (recordAt today s place) _
-      (small-then FewRecords Any (records today s) _ records-small (λ rs few. pick-small rs place)) (λ r any. entry-small r))
+      small-place (inBits (entryAt version1 s place))
+      (small-then Any Any (entryAt version1 s place) _
+      (small-then Any Any (recordAt version1 s place) _
+      (small-then FewRecords Any (records version1 s) _ records-small (λ rs few. pick-small rs place)) (λ r any. entry-small r))
       (λ e any. tt))

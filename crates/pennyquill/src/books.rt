@@ -1,9 +1,10 @@
 // A book of dates in a buffer that the caller lends.
 ghost use mathlib.Core.Path.{_≡_};
 ghost use Prim.Native.Nat.{_≤_};
-ghost use Rattle.rules.specs.Book.{check, appendAnswer, appendBuffer, newAnswer, newBuffer, today, entryAt, entryFor};
+ghost use Rattle.rules.specs.Book.{check, appendAnswer, appendBuffer, newAnswer, newBuffer, version1, entryAt, entryFor};
 ghost use Rattle.rules.specs.Refusals.{RefusedAt, badRecord};
-ghost use Rattle.book.specs.Views.{inBits, checkedAs, foundAs, appendedAs, startedAs};
+ghost use Rattle.frame.specs.Views.{startedAs};
+ghost use Rattle.book.specs.Views.{inBits, checkedAs, foundAs, appendedAs};
 ghost use Rattle.pennyquill.specs.Boundary.{yearIn, wordIn, crossed, recordCrossed, numberOf, placeOf};
 use crate::PqAnswer;
 use crate::PqRecord;
@@ -11,8 +12,8 @@ use crate::crossing;
 use book::Appended;
 use book::Checked;
 use book::Found;
-use book::Started;
 use codes::Coded;
+use frame::Started;
 
 // ---- answers
 
@@ -95,22 +96,22 @@ fn record_crossed(found: Found) -> PqRecord
 #[no_mangle]
 pub extern "C" fn pq_book_new(book: &mut [u8]) -> PqAnswer
     ensures { λ r. ⌜ r ≡ crossed (newAnswer (now (book .entry))) ⌝ }
-    ensures { λ _. ⌜ now (book .exit) ≡ newBuffer today (now (book .entry)) ⌝ }
+    ensures { λ _. ⌜ now (book .exit) ≡ newBuffer (version1 .frame .version) (now (book .entry)) ⌝ }
 {
     start_crossed(book::new(book))
 }
 
 #[no_mangle]
 pub extern "C" fn pq_book_check(book: &[u8]) -> PqAnswer
-    ensures { λ r. ⌜ r ≡ crossed (check today (now (book .entry))) ⌝ }
+    ensures { λ r. ⌜ r ≡ crossed (check version1 (now (book .entry))) ⌝ }
 {
     count_crossed(book::check(book))
 }
 
 #[no_mangle]
 pub extern "C" fn pq_book_append(book: &mut [u8], kind: u32, date: u32) -> PqAnswer
-    ensures { λ r. ⌜ r ≡ crossed (appendAnswer today (entryFor kind (yearIn date) (wordIn date)) (now (book .entry))) ⌝ }
-    ensures { λ _. ⌜ now (book .exit) ≡ appendBuffer today (entryFor kind (yearIn date) (wordIn date)) (now (book .entry)) ⌝ }
+    ensures { λ r. ⌜ r ≡ crossed (appendAnswer version1 (entryFor kind (yearIn date) (wordIn date)) (now (book .entry))) ⌝ }
+    ensures { λ _. ⌜ now (book .exit) ≡ appendBuffer version1 (entryFor kind (yearIn date) (wordIn date)) (now (book .entry)) ⌝ }
 {
     let Coded::Kind(kind) = codes::kind_of_code(kind) else {
         return crossing::not_of_kind();
@@ -120,7 +121,7 @@ pub extern "C" fn pq_book_append(book: &mut [u8], kind: u32, date: u32) -> PqAns
 
 #[no_mangle]
 pub extern "C" fn pq_book_record(book: &[u8], place: usize) -> PqRecord
-    ensures { λ r. ⌜ r ≡ recordCrossed (inBits (entryAt (now (book .entry)) place)) ⌝ }
+    ensures { λ r. ⌜ r ≡ recordCrossed (inBits (entryAt version1 (now (book .entry)) place)) ⌝ }
 {
     record_crossed(book::record_at(book, place))
 }

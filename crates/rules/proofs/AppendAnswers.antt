@@ -10,38 +10,33 @@ use lib.ListN.{set, length, take, drop}
 use lib.Seq.{sets, sets-eq, length-sets, length-take-le, take-add, drop-at}
 use Rattle.rules.specs.Words.{bigBytes}
 use Rattle.rules.specs.Refusals.{Answer, Gives, Refused, RefusedAt, _then_, demand, given, noRoom}
-use Rattle.rules.specs.Book.{Format, lengthSize, headSize, lengthSaid, records, check, appendAnswer, appended, appendBuffer, newAnswer, newBuffer}
+use Rattle.rules.specs.Book.{Frame, Format, lengthSize, headSize, lengthSaid, check, placeAfter, appendAnswer, appended, appendBuffer, newAnswer, newBuffer}
 use Rattle.rules.proofs.ByteLaws.{byte-count}
-use Rattle.rules.proofs.BookLaws.{then-then}
 
 -- ---- the answer, from the count
 
-module _ (format : Format) (s : List ℕ) where
-  -- the place of one record more, where n stand
-  abbrev pub placeAfter : ℕ → Answer ℕ
-  placeAfter n = demand (ltb n (format .most) && leb (lengthSaid s + lengthSize + format .size) (length s)) noRoom (Gives n)
+pub append-by : {A : Type 0} (format : Format A) (s r : List ℕ) → appendAnswer format (Gives r) s ≡ (check format s then placeAfter (format .frame) s)
+unfolding appendAnswer
+append-by format s r = refl
 
-  pub append-by : (r : List ℕ) → appendAnswer format (Gives r) s ≡ (check format s then placeAfter)
-  unfolding appendAnswer check
-  append-by r = sym (then-then (records format s) (λ rs. Gives (length rs)) placeAfter)
+module _ (frame : Frame) (s : List ℕ) where
+  pub full : (n : ℕ) → frame .most ≤ n → placeAfter frame s n ≡ Refused noRoom
+  full n h = rw (le-ltb n (frame .most) h)
 
-  pub full : (n : ℕ) → format .most ≤ n → placeAfter n ≡ Refused noRoom
-  full n h = rw (le-ltb n (format .most) h)
+  pub no-bytes-left : (n : ℕ) → n < frame .most → length s < lengthSaid s + lengthSize + frame .size → placeAfter frame s n ≡ Refused noRoom
+  no-bytes-left n h g = rw (lt-ltb n (frame .most) h, lt-leb (lengthSaid s + lengthSize + frame .size) (length s) g)
 
-  pub no-bytes-left : (n : ℕ) → n < format .most → length s < lengthSaid s + lengthSize + format .size → placeAfter n ≡ Refused noRoom
-  no-bytes-left n h g = rw (lt-ltb n (format .most) h, lt-leb (lengthSaid s + lengthSize + format .size) (length s) g)
-
-  pub room-left : (n : ℕ) → n < format .most → lengthSaid s + lengthSize + format .size ≤ length s → placeAfter n ≡ Gives n
-  room-left n h g = rw (lt-ltb n (format .most) h, le-leb (lengthSaid s + lengthSize + format .size) (length s) g)
+  pub room-left : (n : ℕ) → n < frame .most → lengthSaid s + lengthSize + frame .size ≤ length s → placeAfter frame s n ≡ Gives n
+  room-left n h g = rw (lt-ltb n (frame .most) h, le-leb (lengthSaid s + lengthSize + frame .size) (length s) g)
 
 -- ---- the buffer, as stores make it: the record after the book, then the length
 
-pub stores-are : (format : Format) (r s : List ℕ) → length r ≡ format .size → lengthSaid s + lengthSize + format .size ≤ length s →
-    sets (sets s (lengthSaid s + lengthSize) r) 0 (bigBytes lengthSize (lengthSaid s + format .size)) ≡ appended format r s
+pub stores-are : (frame : Frame) (r s : List ℕ) → length r ≡ frame .size → lengthSaid s + lengthSize + frame .size ≤ length s →
+    sets (sets s (lengthSaid s + lengthSize) r) 0 (bigBytes lengthSize (lengthSaid s + frame .size)) ≡ appended frame r s
 unfolding appended
-stores-are format r s e h =
+stores-are frame r s e h =
     let L = lengthSaid s in
-    let m = L + format .size in
+    let m = L + frame .size in
     let a = bigBytes lengthSize m in
     let l = sets s (L + lengthSize) r in
     let c : length a ≡ lengthSize = byte-count lengthSize m in
@@ -65,7 +60,7 @@ stores-are format r s e h =
 
 -- ---- the buffer, by the answer
 
-module _ (format : Format) (r s : List ℕ) where
+module _ {A : Type 0} (format : Format A) (r s : List ℕ) where
   -- what the answer x, and the list l, have to be
   abbrev pub Appends : Answer ℕ → List ℕ → Type 0
   Appends x l = (x ≡ appendAnswer format (Gives r) s) × (l ≡ appendBuffer format (Gives r) s)
@@ -75,44 +70,44 @@ module _ (format : Format) (r s : List ℕ) where
   kept e f = (sym e, rw (e, f))
 
   pub append-refused : (n : ℕ) → check format s ≡ Refused n → Appends (Refused n) s
-  append-refused n e = kept (append-by format s r ∙ ap (λ (x : Answer ℕ). x then placeAfter format s) e) refl
+  append-refused n e = kept (append-by format s r ∙ ap (λ (x : Answer ℕ). x then placeAfter (format .frame) s) e) refl
 
   pub append-bad : (n place : ℕ) → check format s ≡ RefusedAt n place → Appends (RefusedAt n place) s
-  append-bad n place e = kept (append-by format s r ∙ ap (λ (x : Answer ℕ). x then placeAfter format s) e) refl
+  append-bad n place e = kept (append-by format s r ∙ ap (λ (x : Answer ℕ). x then placeAfter (format .frame) s) e) refl
 
   module _ (n : ℕ) (e : check format s ≡ Gives n) where
-    by-place : appendAnswer format (Gives r) s ≡ placeAfter format s n
-    by-place = append-by format s r ∙ ap (λ (x : Answer ℕ). x then placeAfter format s) e
+    by-place : appendAnswer format (Gives r) s ≡ placeAfter (format .frame) s n
+    by-place = append-by format s r ∙ ap (λ (x : Answer ℕ). x then placeAfter (format .frame) s) e
 
-    pub append-full : format .most ≤ n → Appends (Refused noRoom) s
-    append-full h = kept (by-place ∙ full format s n h) refl
+    pub append-full : format .frame .most ≤ n → Appends (Refused noRoom) s
+    append-full h = kept (by-place ∙ full (format .frame) s n h) refl
 
-    pub append-short : n < format .most → length s < lengthSaid s + lengthSize + format .size → Appends (Refused noRoom) s
-    append-short h g = kept (by-place ∙ no-bytes-left format s n h g) refl
+    pub append-short : n < format .frame .most → length s < lengthSaid s + lengthSize + format .frame .size → Appends (Refused noRoom) s
+    append-short h g = kept (by-place ∙ no-bytes-left (format .frame) s n h g) refl
 
     -- the record is stored after the book, then the length
-    pub append-writes : n < format .most → lengthSaid s + lengthSize + format .size ≤ length s → length r ≡ format .size →
-        {at m : ℕ} → at ≡ lengthSaid s + lengthSize → m ≡ lengthSaid s + format .size →
+    pub append-writes : n < format .frame .most → lengthSaid s + lengthSize + format .frame .size ≤ length s → length r ≡ format .frame .size →
+        {at m : ℕ} → at ≡ lengthSaid s + lengthSize → m ≡ lengthSaid s + format .frame .size →
         {l l′ : List ℕ} → l ≡ sets s at r → l′ ≡ sets l 0 (bigBytes lengthSize m) → Appends (Gives n) l′
     unfolding appendBuffer
     append-writes h g z p q d d′ =
-        let a = by-place ∙ room-left format s n h g in (sym a, rw (a, d′, d, p, q) (stores-are format r s z g))
+        let a = by-place ∙ room-left (format .frame) s n h g in (sym a, rw (a, d′, d, p, q) (stores-are (format .frame) r s z g))
 
 -- ---- a new book, as stores make it
 
-pub new-stores : (format : Format) (s : List ℕ) → headSize ≤ length s →
-    sets (set s lengthSize (format .version)) 0 (bigBytes lengthSize 1) ≡ newBuffer format s
+pub new-stores : (version : ℕ) (s : List ℕ) → headSize ≤ length s →
+    sets (set s lengthSize version) 0 (bigBytes lengthSize 1) ≡ newBuffer version s
 unfolding newBuffer newAnswer bigBytes
-new-stores format [] h = absurd (omega arith)
-new-stores format (a ∷ []) h = absurd (omega arith)
-new-stores format (a ∷ b ∷ []) h = absurd (omega arith)
-new-stores format (a ∷ b ∷ c ∷ []) h = absurd (omega arith)
-new-stores format (a ∷ b ∷ c ∷ d ∷ []) h = absurd (omega arith)
-new-stores format (a ∷ b ∷ c ∷ d ∷ v ∷ s) h = rw (le-leb headSize (length (a ∷ b ∷ c ∷ d ∷ v ∷ s)) h)
+new-stores version [] h = absurd (omega arith)
+new-stores version (a ∷ []) h = absurd (omega arith)
+new-stores version (a ∷ b ∷ []) h = absurd (omega arith)
+new-stores version (a ∷ b ∷ c ∷ []) h = absurd (omega arith)
+new-stores version (a ∷ b ∷ c ∷ d ∷ []) h = absurd (omega arith)
+new-stores version (a ∷ b ∷ c ∷ d ∷ v ∷ s) h = rw (le-leb headSize (length (a ∷ b ∷ c ∷ d ∷ v ∷ s)) h)
 
-pub new-kept : (format : Format) (s : List ℕ) → length s < headSize → (Refused noRoom ≡ newAnswer s) × (s ≡ newBuffer format s)
+pub new-kept : (version : ℕ) (s : List ℕ) → length s < headSize → (Refused noRoom ≡ newAnswer s) × (s ≡ newBuffer version s)
 unfolding newBuffer newAnswer
-new-kept format s h = (rw (lt-leb headSize (length s) h), rw (lt-leb headSize (length s) h))
+new-kept version s h = (rw (lt-leb headSize (length s) h), rw (lt-leb headSize (length s) h))
 
 pub new-given : (s : List ℕ) → headSize ≤ length s → Gives 0 ≡ newAnswer s
 unfolding newAnswer

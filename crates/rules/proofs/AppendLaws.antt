@@ -11,42 +11,37 @@ use lib.Dec.{leb, ltb, lit<}
 use lib.ListN.{length, take, drop, length-append, length-drop, take-append-drop}
 use lib.Seq.{length-take-le, take-at, drop-at, getD-at, drop-append-add}
 use Rattle.rules.specs.Words.{bigBytes}
-use Rattle.rules.specs.Refusals.{Answer, Gives, Refused, RefusedAt, _then_, noRoom}
-use Rattle.rules.specs.Book.{Format, lengthSize, headSize, lengthSaid, versionOf, pieces, records, check, pick, recordAt, appendAnswer, appended, appendBuffer, newAnswer, newBuffer}
+use Rattle.rules.specs.Refusals.{Answer, Gives, Refused, RefusedAt, _then_, given, noRoom}
+use Rattle.rules.specs.Book.{Frame, Format, soundBy, lengthSize, headSize, lengthSaid, versionOf, pieces, framed, firstBad, allPass, records, check, pick, recordAt, entryAt, placeAfter, appendAnswer, appended, appendBuffer, newAnswer, newBuffer}
 use Rattle.rules.proofs.Rests.{here}
 use Rattle.rules.proofs.KindLaws.{left, right}
 use Rattle.rules.proofs.ByteLaws.{byte-count, number-back}
 use Rattle.rules.proofs.PieceLaws.{pieces-front, pieces-more, one-more, pick-old, pick-new}
-use Rattle.rules.proofs.AppendAnswers.{placeAfter, append-by}
-use Rattle.rules.proofs.BookLaws.{Sensible, Holds, demand-met, holds-found, Counted, counted}
+use Rattle.rules.proofs.AppendAnswers.{append-by}
+use Rattle.rules.proofs.FrameLaws.{Sensible, demand-met, then-met, framed-found}
+use Rattle.rules.proofs.BookLaws.{Holds, holds-found, check-by, entry-by, Counted, counted}
 
 -- ---- after an append that gave a place
 
-module _ (format : Format) (sensible : Sensible format) where
+module _ {A : Type 0} (format : Format A) (sensible : Sensible (format .frame)) where
   abbrev k : ℕ
-  k = format .size
+  k = format .frame .size
 
   -- what the place tells: so many records stood there, fewer than the most, and there was room
   pub record Room (s : List ℕ) (n : ℕ) : Type 0 where
     pub count : Counted format sensible s n
-    pub less : n < format .most
+    pub less : n < format .frame .most
     pub room : lengthSaid s + lengthSize + k ≤ length s
 
   pub place-tells : (r s : List ℕ) (n : ℕ) → appendAnswer format (Gives r) s ≡ Gives n → Room s n
-  place-tells r s n e = inner (check format s) refl (sym (append-by format s r) ∙ e)
-    where
-      inner : (x : Answer ℕ) → check format s ≡ x → (x then placeAfter format s) ≡ Gives n → Room s n
-      inner (Gives m) p q =
-          let g = demand-met (ltb m (format .most) && leb (lengthSaid s + lengthSize + k) (length s)) noRoom (Gives m) n q in
-          let z : m ≡ n = cc (g .1) in
-          let l : m < format .most = ltb-true m (format .most) (left (ltb m (format .most)) _ (g .0)) in
-          record {
-            count = counted format sensible s n (p ∙ ap Gives z);
-            less = omega arith;
-            room = leb-true _ _ (right (ltb m (format .most)) _ (g .0));
-          }
-      inner (Refused code) p q = let z : _≡_ {A = ℕ} 0 1 = cc in absurd (omega arith)
-      inner (RefusedAt code place) p q = let z : _≡_ {A = ℕ} 0 1 = cc in absurd (omega arith)
+  place-tells r s n e =
+      let c = then-met (check format s) (placeAfter (format .frame) s) n (sym (append-by format s r) ∙ e) in
+      let m = c .value in
+      let t = ltb m (format .frame .most) in
+      let g = demand-met (t && leb (lengthSaid s + lengthSize + k) (length s)) noRoom (Gives m) n (c .next) in
+      let z : m ≡ n = cc (g .1) in
+      let l : m < format .frame .most = ltb-true m (format .frame .most) (left t _ (g .0)) in
+      record { count = counted format sensible s n (c .is ∙ ap Gives z); less = omega arith; room = leb-true _ _ (right t _ (g .0)) }
 
   module _ (r s : List ℕ) (n : ℕ) (e : appendAnswer format (Gives r) s ≡ Gives n) (size : length r ≡ k) where
     abbrev pub after : List ℕ
@@ -70,7 +65,7 @@ module _ (format : Format) (sensible : Sensible format) where
     past = drop (lengthSaid s + lengthSize + k) s
 
     pub said : lengthSaid s ≡ 1 + n * k
-    said = let c = told .count .count in rw c at (told .count .holds .says)
+    said = let c = told .count .count in rw c at (told .count .holds .frame .says)
 
     four : length head ≡ lengthSize
     four = byte-count lengthSize (lengthSaid s + k)
@@ -95,7 +90,7 @@ module _ (format : Format) (sensible : Sensible format) where
     small : lengthSaid s + k < 256 ^ lengthSize
     small =
         let a = said in let l = told .less in let f = sensible .fits in
-        let m : (n + 1) * k ≤ format .most * k = mul-le-mul-right k (let g : n + 1 ≤ format .most = omega arith in g) in
+        let m : (n + 1) * k ≤ format .frame .most * k = mul-le-mul-right k (let g : n + 1 ≤ format .frame .most = omega arith in g) in
         omega arith
 
     pub said-after : lengthSaid after ≡ lengthSaid s + k
@@ -119,22 +114,24 @@ module _ (format : Format) (sensible : Sensible format) where
         let z : lengthSaid s + k + lengthSize ≡ lengthSaid s + lengthSize + k = omega arith in
         rw (said-after, z, e) (drop-at (head ++ take (lengthSaid s) (drop lengthSize s) ++ r) past _ front)
 
-    module _ (well : format .sound r ≡ true) where
+    module _ (well : soundBy format r ≡ true) where
       pub holds-after : Holds format after (rs ++ r ∷ [])
       holds-after =
           let h = told .count .holds in let c = told .count .count in
           let more : length (rs ++ r ∷ []) ≡ suc n = rw (length-append, c) (omega arith) in
           let front : drop headSize s ≡ old ++ drop (n * k) (drop headSize s) = sym (take-append-drop (n * k) (drop headSize s)) in
           let cut : pieces n k old ≡ rs =
-          sym (pieces-front n k old (drop (n * k) (drop headSize s)) old-long) ∙ ap (pieces n k) (sym front) ∙ rw c at (h .cut) in
+          sym (pieces-front n k old (drop (n * k) (drop headSize s)) old-long) ∙ ap (pieces n k) (sym front) ∙ rw c at (h .frame .cut) in
           let a = said in let b = told .room in let l = told .less in let t = said-after in let u = same-length in
           record {
-            says = rw more (omega arith);
-            most = rw more (omega arith);
-            fits = rw (more, same-length) (omega arith);
-            version = rw in-parts (getD-at head (versionOf s) (old ++ (r ++ past)) 0 lengthSize four ∙ h .version);
-            cut = rw (more, behind-head) (pieces-more n k old r past old-long size ∙ ap (λ (l : List (List ℕ)). l ++ r ∷ []) cut);
-            sound = one-more (format .sound) rs r (h .sound) well;
+            frame = record {
+              says = rw more (omega arith);
+              most = rw more (omega arith);
+              fits = rw (more, same-length) (omega arith);
+              version = rw in-parts (getD-at head (versionOf s) (old ++ (r ++ past)) 0 lengthSize four ∙ h .frame .version);
+              cut = rw (more, behind-head) (pieces-more n k old r past old-long size ∙ ap (λ (l : List (List ℕ)). l ++ r ∷ []) cut);
+            };
+            sound = one-more (soundBy format) rs r (h .sound) well;
           }
 
       records-after : records format after ≡ Gives (rs ++ r ∷ [])
@@ -155,28 +152,44 @@ module _ (format : Format) (sensible : Sensible format) where
       unfolding recordAt
       new-after = rw records-after (ap (pick (rs ++ r ∷ [])) (sym (told .count .count)) ∙ pick-new rs r)
 
-  -- ---- a new book has no record
+-- ---- the same of what the records are, where the new one's bytes are a
 
-  pub new-records : (s : List ℕ) → headSize ≤ length s → records format (newBuffer format s) ≡ Gives []
+module _ {A : Type 0} (format : Format A) (sensible : Sensible (format .frame)) (r s : List ℕ) (n : ℕ) (e : appendAnswer format (Gives r) s ≡ Gives n)
+    (size : length r ≡ format .frame .size) (a : A) (is : format .entry r ≡ Gives a) where
+  abbrev left-by : List ℕ
+  left-by = appendBuffer format (Gives r) s
+
+  pub count-more : check format left-by ≡ Gives (n + 1)
+  count-more = count-after format sensible r s n e size (ap given is)
+
+  pub old-entries : (i : ℕ) → i < n → entryAt format left-by i ≡ entryAt format s i
+  old-entries i h = entry-by format left-by i (old-after format sensible r s n e size (ap given is) i h) ∙ sym (entry-by format s i refl)
+
+  pub new-entry : entryAt format left-by n ≡ Gives a
+  new-entry = entry-by format left-by n (new-after format sensible r s n e size (ap given is)) ∙ is
+
+-- ---- a new book has no record
+
+module _ (frame : Frame) (sensible : Sensible frame) where
+  pub new-framed : (s : List ℕ) → headSize ≤ length s → framed frame (newBuffer (frame .version) s) ≡ Gives []
   unfolding newBuffer newAnswer lengthSaid pieces
-  new-records s h =
+  new-framed s h =
       let a = bigBytes lengthSize 1 in
-      let t = newBuffer format s in
-      let is : t ≡ a ++ (format .version ∷ drop headSize s) =
-      rw (le-leb headSize (length s) h) (append-assoc a (format .version ∷ []) (drop headSize s)) in
+      let t = newBuffer (frame .version) s in
+      let is : t ≡ a ++ (frame .version ∷ drop headSize s) =
+      rw (le-leb headSize (length s) h) (append-assoc a (frame .version ∷ []) (drop headSize s)) in
       let f = byte-count lengthSize 1 in
       let said : lengthSaid t ≡ 1 =
-      rw (is, take-at a (format .version ∷ drop headSize s) lengthSize f) (number-back lengthSize 1 (lit< tt)) in
+      rw (is, take-at a (frame .version ∷ drop headSize s) lengthSize f) (number-back lengthSize 1 (lit< tt)) in
       let long : length t ≡ length s = rw (is, length-append, length-drop) (omega arith) in
-      holds-found format sensible t [] (record {
+      framed-found frame sensible t [] (record {
         says = omega arith;
         most = zero-le;
         fits = rw long (omega arith);
-        version = rw is (getD-at a (format .version) (drop headSize s) 0 lengthSize f);
+        version = rw is (getD-at a (frame .version) (drop headSize s) 0 lengthSize f);
         cut = refl;
-        sound = zero-le;
       })
 
-  pub new-count : (s : List ℕ) → headSize ≤ length s → check format (newBuffer format s) ≡ Gives 0
-  unfolding check
-  new-count s h = rw (new-records s h)
+pub new-count : {A : Type 0} (format : Format A) (sensible : Sensible (format .frame)) (s : List ℕ) → headSize ≤ length s → check format (newBuffer (format .frame .version) s) ≡ Gives 0
+unfolding allPass firstBad
+new-count format sensible s h = check-by format (newBuffer (format .frame .version) s) (new-framed (format .frame) sensible s h)

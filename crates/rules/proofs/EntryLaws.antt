@@ -13,12 +13,12 @@ use Rattle.sign.proofs.Laws.{same, ints}
 use Rattle.rules.specs.Words.{bigEndian, bigBytes}
 use Rattle.rules.specs.Refusals.{Answer, Gives, _then_, given}
 use Rattle.rules.specs.Kinds.{Kind, kR, kD, kH, kU, kE, kV, Fields, ofKind, packed, handedIn}
-use Rattle.rules.specs.Book.{kindCode, kindOfCode, twosComplement, yearOfTwos, entryBytes, entryOf, entryFor, today, check, recordAt, entryAt, appendAnswer, appendBuffer}
+use Rattle.rules.specs.Book.{kindCode, kindOfCode, twosComplement, yearOfTwos, entryBytes, Entry, entryFrom, entryOf, entryFor, soundBy, version1, check, entryAt, appendAnswer, appendBuffer}
 use Rattle.rules.proofs.KindLaws.{fit}
 use Rattle.rules.proofs.PackLaws.{handed-back, word-fits}
 use Rattle.rules.proofs.ByteLaws.{number-back}
-use Rattle.rules.proofs.BookLaws.{Sensible}
-use Rattle.rules.proofs.AppendLaws.{old-after, new-after, count-after}
+use Rattle.rules.proofs.FrameLaws.{Sensible}
+use Rattle.rules.proofs.AppendLaws as A
 
 -- ---- the year in two bytes
 
@@ -59,13 +59,13 @@ code-back kU = refl
 code-back kE = refl
 code-back kV = refl
 
-pub entry-long : (k : Kind) (f : Fields) → length (entryBytes k f) ≡ today .size
+pub entry-long : (k : Kind) (f : Fields) → length (entryBytes k f) ≡ version1 .frame .size
 unfolding entryBytes bigBytes
 entry-long k f = refl
 
 -- a date's record gives its kind and the date
 pub entry-back : (k : Kind) (f : Fields) → ofKind k f ≡ true → entryOf (entryBytes k f) ≡ Gives (record { kind = k; date = f })
-unfolding entryOf entryBytes bigBytes
+unfolding entryFrom entryBytes bigBytes
 entry-back k f p =
     let t = fit k f p in
     let y : bigEndian (bigBytes 2 (twosComplement (f .year))) ≡ twosComplement (f .year) =
@@ -73,7 +73,7 @@ entry-back k f p =
     let w : bigEndian (bigBytes 2 (packed f)) ≡ packed f = number-back 2 _ (let h = word-fits k f p in omega arith) in
     rw (code-back k, y, year-back (f .year) (t .year-high) (t .year-low), w, handed-back k f p)
 
-pub entry-sound : (k : Kind) (f : Fields) → ofKind k f ≡ true → today .sound (entryBytes k f) ≡ true
+pub entry-sound : (k : Kind) (f : Fields) → ofKind k f ≡ true → soundBy version1 (entryBytes k f) ≡ true
 entry-sound k f p = ap given (entry-back k f p)
 
 -- the record of a date handed in, by its kind's code
@@ -81,26 +81,23 @@ pub entry-for : (k : Kind) (year : ℤ) (word : ℕ) → entryFor (kindCode k) y
 unfolding entryFor
 entry-for k year word = rw (code-back k)
 
--- ---- today's book
+-- ---- version 1
 
-pub today-sensible : Sensible today
-today-sensible = record { some = lit< tt; fits = lit< tt }
+pub version1-sensible : Sensible (version1 .frame)
+version1-sensible = record { some = lit< tt; fits = lit< tt }
 
--- the entry at a place, from what is answered of the record there
-pub entry-by : (s : List ℕ) (i : ℕ) {x : Answer (List ℕ)} → recordAt today s i ≡ x → entryAt s i ≡ (x then entryOf)
-unfolding entryAt
-entry-by s i e = ap (λ (a : Answer (List ℕ)). a then entryOf) e
-
-module _ (k : Kind) (f : Fields) (p : ofKind k f ≡ true) (s : List ℕ) (n : ℕ) (e : appendAnswer today (Gives (entryBytes k f)) s ≡ Gives n) where
+module _ (k : Kind) (f : Fields) (p : ofKind k f ≡ true) (s : List ℕ) (n : ℕ) (e : appendAnswer version1 (Gives (entryBytes k f)) s ≡ Gives n) where
   abbrev after : List ℕ
-  after = appendBuffer today (Gives (entryBytes k f)) s
+  after = appendBuffer version1 (Gives (entryBytes k f)) s
 
-  pub one-record-more : check today after ≡ Gives (n + 1)
-  one-record-more = count-after today today-sensible (entryBytes k f) s n e (entry-long k f) (entry-sound k f p)
+  abbrev entry : Entry
+  entry = record { kind = k; date = f }
 
-  pub old-entries : (i : ℕ) → i < n → entryAt after i ≡ entryAt s i
-  old-entries i h =
-      entry-by after i (old-after today today-sensible (entryBytes k f) s n e (entry-long k f) (entry-sound k f p) i h) ∙ sym (entry-by s i refl)
+  pub one-record-more : check version1 after ≡ Gives (n + 1)
+  one-record-more = A.count-more version1 version1-sensible (entryBytes k f) s n e (entry-long k f) entry (entry-back k f p)
 
-  pub new-entry : entryAt after n ≡ Gives (record { kind = k; date = f })
-  new-entry = entry-by after n (new-after today today-sensible (entryBytes k f) s n e (entry-long k f) (entry-sound k f p)) ∙ entry-back k f p
+  pub old-entries : (i : ℕ) → i < n → entryAt version1 after i ≡ entryAt version1 s i
+  old-entries = A.old-entries version1 version1-sensible (entryBytes k f) s n e (entry-long k f) entry (entry-back k f p)
+
+  pub new-entry : entryAt version1 after n ≡ Gives entry
+  new-entry = A.new-entry version1 version1-sensible (entryBytes k f) s n e (entry-long k f) entry (entry-back k f p)

@@ -9,6 +9,7 @@ pub mod OrderLaws
 pub mod PackLaws
 pub mod ByteLaws
 pub mod PieceLaws
+pub mod FrameLaws
 pub mod BookLaws
 pub mod AppendAnswers
 pub mod AppendLaws

@@ -47,7 +47,7 @@ pub first-not : (sound : List ℕ → Bool) (r : List ℕ) (rs : List (List ℕ)
 unfolding firstBad
 first-not sound r rs e = rw e
 
-passed : (t : Bool) (n m : ℕ) → suc m ≤ cond t (suc n) 0 → (t ≡ true) × (m ≤ n)
+pub passed : (t : Bool) (n m : ℕ) → suc m ≤ cond t (suc n) 0 → (t ≡ true) × (m ≤ n)
 passed true n m h = (refl, omega arith)
 passed false n m h = absurd (omega arith)
 

@@ -1,15 +1,24 @@
 -- `book::append` meets its contract: the record of a date of the kind, or refusal 4 before all others. Assumes nothing.
-use mathlib.Core.Path.{refl, sym, _∙_}
+use mathlib.Core.Path.{_≡_, refl, sym, ap, _∙_}
+use native.Mathlib.Omega.{arith}
+use lib.ListN.{length}
 use Rattle.rules.specs.Book.{appendAnswer, appendBuffer}
-use Rattle.book.proofs.Laws.{entry-given, entry-not}
+use Rattle.book.proofs.Laws.{five-long, entry-given, entry-not}
 use borrow.Author.Needs.{needs}
 use Rattle.book.proofs.append.Statement.{statement}
 use Rattle.book.proofs.append.Tie as tie
 
+append-record-requires : tie.Need-append-record-requires
+append-record-requires c κs =
+    let a = c .before .before .before .before .before .before .args in
+    let long : length (c .before .before .bytes-of .result) ≡ 5 = ap length (c .before .before .bytes-of .ensures) ∙ five-long (a .kind) (a .date) in
+    (omega arith, omega arith)
+
 returns : tie.Need-returns
 returns c =
-    let a = c .before .before .before .before .before .before .before .args in
-    rw (entry-given (a .kind) (a .date) (sym (c .before .before .before .before .before .is-of-kind .ensures) ∙ c .before .before .before .before .if1 .taken)) (c .before .before .append-entry .ensures)
+    let a = c .before .before .before .before .before .before .before .before .before .args in
+    rw (entry-given (a .kind) (a .date) (sym (c .before .before .before .before .before .before .before .is-of-kind .ensures) ∙ c .before .before .before .before .before .before .if1 .taken))
+    (rw (c .before .before .before .before .before .bytes-of .ensures, five-long (a .kind) (a .date)) at (c .before .before .append-record .ensures))
 
 returns-2 : tie.Need-returns-2
 unfolding appendAnswer appendBuffer
@@ -19,4 +28,4 @@ returns-2 c =
 
 pub append-spec : {M : Type 1} → statement M
 append-spec =
-    tie.close (tie.spec (λ c κs. search needs) (λ c κs. search needs) (λ c. search needs) returns returns-2)
+    tie.close (tie.spec (λ c κs. search needs) (λ c κs. search needs) (λ c. search needs) append-record-requires (λ c. search needs) returns returns-2)

@@ -44,7 +44,7 @@ use denote.Triple.Walked.{says, Stays, stay-none, walkOf, goes-none, Walks, ends
 use denote.Exit.{yes}
 use denote.Triple.Clauses.{ensured, lasts}
 use Rattle.rules.specs.Refusals.{Answer}
-use Rattle.rules.specs.Book.{entryAt}
+use Rattle.rules.specs.Book.{entryAt, version1}
 use Rattle.book.specs.Views.{Bits, foundAs, inBits}
 use Rattle.book_reader.specs.declared.BookReader.{BookReader}
 use Rattle.book.specs.declared.Found.{Found}
@@ -82,7 +82,7 @@ module _ {M : Type 1} (𝓤 : URA M) (H : Heap 𝓤) (A : Atoms 𝓤) (W : Given
   v = sliceVal (d .book .ptr) (length (d .book .now))
 
   abbrev found : Answer Bits
-  found = inBits (entryAt (now (d .book)) (d .place))
+  found = inBits (entryAt version1 (now (d .book)) (d .place))
 
   abbrev Post : Val → SProp 𝓤
   Post = walkOf 𝓤 H A next.ended stayed (next.clauses 𝓤 H A mem run) .post (((κ, tt), (q, tt), tt, (d, tt), (mach ∷ [], tt)), tt)

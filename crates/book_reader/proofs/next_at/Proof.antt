@@ -39,7 +39,7 @@ use denote.Triple.Walked.{says, Stays, stay-none, stay-none-slice, walkOf, goes-
 use denote.Exit.{yes}
 use denote.Triple.Clauses.{ensured, lasts}
 use Rattle.rules.specs.Refusals.{Answer}
-use Rattle.rules.specs.Book.{entryAt}
+use Rattle.rules.specs.Book.{entryAt, version1}
 use Rattle.book.specs.Views.{Bits, foundAs, inBits}
 use Rattle.book_reader.specs.declared.BookReader.{BookReader}
 use Rattle.book.specs.declared.Found.{Found}
@@ -82,10 +82,10 @@ module _ {M : Type 1} (𝓤 : URA M) (H : Heap 𝓤) (A : Atoms 𝓤) (W : Given
 
   -- what a reader of a book at a place gives
   abbrev shown : BookReader → Answer Bits
-  shown r = inBits (entryAt (now (r .book)) (r .place))
+  shown r = inBits (entryAt version1 (now (r .book)) (r .place))
 
   abbrev found : Answer Bits
-  found = inBits (entryAt (now s) n)
+  found = inBits (entryAt version1 (now s) n)
 
   abbrev at : Vals next-at.signature (κ, tt)
   at = (v ∷ [], (vint w64 n ∷ [], tt))
@@ -151,7 +151,7 @@ module _ {M : Type 1} (𝓤 : URA M) (H : Heap 𝓤) (A : Atoms 𝓤) (W : Given
         land ! (from ! (stop !)) (init ! 9 refl (EL.lawful S.the-type S′.the-laws 𝓤 H A W tt .typed t _ is′ .0)) $
         returns ! (look ! 9 refl) $ forget ! 3 refl $ forget ! 5 refl $ forget ! 7 refl $ forget ! 9 refl $
         move ! (9 ∷ 10 ∷ []) $ free1 ! $ move ! (7 ∷ 8 ∷ []) $ free1 ! $ move ! (5 ∷ 6 ∷ []) $ free1 ! $ move ! (3 ∷ 4 ∷ []) $ free1 ! $ free0 ! $
-        by ! (exits t u′ (e′ ∙ (ap (λ (x : RefT (List ℕ)). inBits (entryAt (now x) (r .place))) (e .0) ∙ ap (λ (i : ℕ). inBits (entryAt (now s) i)) (e .1))))))))))))))))
+        by ! (exits t u′ (e′ ∙ (ap (λ (x : RefT (List ℕ)). inBits (entryAt version1 (now x) (r .place))) (e .0) ∙ ap (λ (i : ℕ). inBits (entryAt version1 (now s) i)) (e .1))))))))))))))))
 
 module _ {M : Type 1} (𝓤 : URA M) (H : Heap 𝓤) (A : Atoms 𝓤) (W : Given 𝓤 H A) (mem : Memory → SProp 𝓤) (run : Routine → Fun 𝓤) where
   next-at-walks : (C : Calls 𝓤 H) (Λ : Loops 𝓤 H) → FmC 𝓤 H (W .laws) C → Triple 𝓤 (C #book-reader·start) (Start 𝓤 H A mem run) → Triple 𝓤 (C #book-reader·next) (Next 𝓤 H A mem run)

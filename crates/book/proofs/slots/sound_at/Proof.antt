@@ -3,8 +3,7 @@ use mathlib.Core.Path.{sym, ap, _∙_}
 use denote.Ref.{now}
 use lib.ListN.{take, drop}
 use Rattle.rules.specs.Refusals.{given}
-use Rattle.rules.specs.Book.{entryOf}
-use Rattle.book.specs.Views.{slotAs}
+use Rattle.book.specs.Views.{entrySized, slotAs}
 use Rattle.book.proofs.Laws.{given-bits}
 use borrow.Author.Needs.{needs}
 use Rattle.book.proofs.slots.sound_at.Statement.{statement}
@@ -13,12 +12,12 @@ use Rattle.book.proofs.slots.sound_at.Tie as tie
 returns : tie.Need-returns
 returns c =
     let a = c .before .before .before .before .args in
-    ap given (ap slotAs (sym (c .enum-told .given .1)) ∙ c .before .before .slot-at .ensures) ∙ given-bits (entryOf (take 5 (drop (a .at) (now (a .b)))))
+    ap given (ap slotAs (sym (c .enum-told .given .1)) ∙ c .before .before .slot-at .ensures) ∙ given-bits (entrySized (a .size) (take (a .size) (drop (a .at) (now (a .b)))))
 
 returns-2 : tie.Need-returns-2
 returns-2 c =
     let a = c .before .before .before .before .args in
-    ap given (ap slotAs (sym (c .enum-told2 .given .1)) ∙ c .before .before .slot-at .ensures) ∙ given-bits (entryOf (take 5 (drop (a .at) (now (a .b)))))
+    ap given (ap slotAs (sym (c .enum-told2 .given .1)) ∙ c .before .before .slot-at .ensures) ∙ given-bits (entrySized (a .size) (take (a .size) (drop (a .at) (now (a .b)))))
 
 pub sound-at-spec : {M : Type 1} → statement M
 sound-at-spec = tie.close (tie.spec (λ c κs. search needs) (λ c. search needs) (λ c. search needs) returns returns-2)

@@ -1,10 +1,10 @@
--- `book::put_length` meets its contract: four stores, the largest byte first. Assumes nothing.
+-- `frame::put_length` meets its contract: four stores, the largest byte first. Assumes nothing.
 use native.Mathlib.Omega.{arith}
 use lib.ListN.{length-set}
 use Rattle.rules.proofs.ByteLaws.{four-bytes-of}
 use borrow.Author.Needs.{needs}
-use Rattle.book.proofs.put_length.Statement.{statement}
-use Rattle.book.proofs.put_length.Tie as tie
+use Rattle.frame.proofs.put_length.Statement.{statement}
+use Rattle.frame.proofs.put_length.Tie as tie
 
 returns : tie.Need-returns
 returns c = rw (four-bytes-of _ (c .pre .1))

@@ -2,20 +2,22 @@
 -- Over the size of a record. Assumes nothing.
 use mathlib.Core.Path.{_≡_, refl, sym, ap, subst, _∙_}
 use mathlib.Core.Bool.{true, false}
-use mathlib.Core.List.{List, [], _∷_}
+use mathlib.Core.List.{List, [], _∷_, _++_, append-assoc}
 use Prim.Native.Nat.{ℕ, _+_, _*_, _-_, _/_, _≤_, _<_}
 use native.Mathlib.Nat.{add-zero}
 use native.Mathlib.Omega.{arith}
 use lib.Dec.{T}
 use lib.IntN.{ℤ}
 use lib.ListN.{length, getD, take, drop, length-drop}
-use lib.Seq.{getD-take, getD-drop, length-take-le}
+use lib.Seq.{sets, sets-eq, getD-take, getD-drop, length-take-le, take-length, drop-drop}
+use borrow.Rule.Slice.PartMut.{putMid, midOf}
 use Rattle.rules.specs.Words.{bigEndian, bigBytes}
 use Rattle.rules.specs.Refusals.{Answer, Gives, Refused, RefusedAt, given, notOfKind, noRecord}
 use Rattle.rules.specs.Kinds as K
 use Rattle.rules.specs.Kinds.{handedIn}
 use Rattle.rules.specs.Book.{Format, headSize, kindCode, kindOfCode, yearOfTwos, entryBytes, Entry, entryFrom, entryOf, lengthSaid, check, version1, entryAt, entryFor}
 use Rattle.rules.proofs.Rests as R
+use Rattle.rules.proofs.WriteLaws.{tail-lent, tail-back}
 use Rattle.rules.proofs.FrameLaws.{Sensible}
 use Rattle.rules.proofs.BookLaws.{entry-by, Counted, counted, checked, ends-inside, record-here, record-none, sound-here}
 use Rattle.rules.proofs.EntryLaws.{entry-for}
@@ -64,6 +66,14 @@ module _ (s : List ℕ) (at size : ℕ) (inside : at + size ≤ length s) where
       let q : at + (size - dateSize + 2) ≡ d + 2 = omega arith in
       let r : d + 2 + 1 ≡ d + 3 = omega arith in
       rw (f, two-at (size - dateSize) (omega arith), two-at (size - dateSize + 2) (omega arith), p, q, r)
+
+-- ---- a record's bytes, where a copy into `&mut s[at..]` puts them
+
+pub put-at : (s v l : List ℕ) (at : ℕ) → at + length v ≤ length s →
+    l ≡ take (length v) v ++ drop (length v) (midOf at (length s - at) s) → putMid at (length s - at) s l ≡ sets s at v
+put-at s v l at h e =
+    let is : l ≡ v ++ drop (at + length v) s = e ∙ rw (tail-lent s at, take-length, drop-drop) in
+    tail-back s l at ∙ rw is (sym (append-assoc (take at s) v (drop (at + length v) s)) ∙ sym (sets-eq v s at h))
 
 -- ---- what five bytes are, by the tests that the code makes
 

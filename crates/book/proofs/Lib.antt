@@ -1,3 +1,2 @@
-pub mod Tail
 pub mod Laws
 pub mod Determined

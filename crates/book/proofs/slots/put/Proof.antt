@@ -1,6 +1,6 @@
 -- `book::slots::put` meets its contract: a copy into the rest of the buffer is a run of stores. Assumes nothing.
 use denote.Ref.{now}
-use Rattle.book.proofs.Tail.{tail-put}
+use Rattle.book.proofs.Laws.{put-at}
 use borrow.Author.Needs.{needs}
 use Rattle.book.proofs.slots.put.Statement.{statement}
 use Rattle.book.proofs.slots.put.Tie as tie
@@ -8,7 +8,7 @@ use Rattle.book.proofs.slots.put.Tie as tie
 returns : tie.Need-returns
 returns c =
     let a = c .before .before .before .before .before .before .args in
-    tail-put (now (a .b)) (now (a .piece)) _ (a .at) (c .before .before .before .before .before .before .pre) (c .before .before .copy .ensures .1)
+    put-at (now (a .b)) (now (a .piece)) _ (a .at) (c .before .before .before .before .before .before .pre) (c .before .before .copy .ensures .1)
 
 pub put-spec : {M : Type 1} → statement M
 put-spec =

@@ -14,7 +14,7 @@ use borrow.Rule.Slice.PartMut.{putMid, midOf}
 use Rattle.rules.specs.Words.{bigEndian, bigBytes}
 use Rattle.rules.specs.Refusals.{Answer, Gives, Refused, RefusedAt, given, notOfKind, noRecord}
 use Rattle.rules.specs.Kinds as K
-use Rattle.rules.specs.Kinds.{handedIn}
+use Rattle.rules.specs.Kinds.{Stored, handed}
 use Rattle.rules.specs.Book.{Format, headSize, kindCode, kindOfCode, yearOfTwos, entryBytes, Entry, entryFrom, entryOf, lengthSaid, check, version1, entryAt, entryFor}
 use Rattle.rules.proofs.Rests as R
 use Rattle.rules.proofs.WriteLaws.{tail-lent, tail-back}
@@ -23,8 +23,8 @@ use Rattle.rules.proofs.BookLaws.{entry-by, Counted, counted, checked, ends-ins
 use Rattle.rules.proofs.EntryLaws.{entry-for}
 use Rattle.expanded.specs.declared.Kind.{Kind}
 use Rattle.expanded.specs.declared.Packed.{Packed}
-use Rattle.expanded.specs.Views.{kindOf}
-use Rattle.expanded.proofs.Laws.{handed-by, handed-word}
+use Rattle.expanded.specs.Views.{kindOf, bitsOf}
+use Rattle.rules.proofs.PackLaws.{handed-by, unmarked, unmarked-word}
 use Rattle.frame.specs.Views.{frameOf}
 use Rattle.book.specs.Views.{dateSize, leastSize, entrySized, bookOf, inBits, bytesOf}
 
@@ -95,13 +95,16 @@ module _ (code y₁ y₀ w₁ w₀ : ℕ) where
     unfolding bigEndian
     two high low = omega arith
 
-    pub of-kind : given (handedIn k year word) ≡ true → inBits (entryOf five) ≡ Gives (record { kind = k; date = record { year = year; word = word } })
-    unfolding entryFrom
-    of-kind g = rw (e, two y₁ y₀, two w₁ w₀, ← y, ← w, handed-by k year word g, handed-word k year word g)
+    abbrev date : Stored
+    date = record { year = year; word = word }
 
-    pub not-of-kind : given (handedIn k year word) ≡ false → inBits (entryOf five) ≡ Refused notOfKind
+    pub of-kind : given (handed k date) ≡ true → inBits (entryOf five) ≡ Gives (record { kind = k; date = date })
     unfolding entryFrom
-    not-of-kind g = rw (e, two y₁ y₀, two w₁ w₀, ← y, ← w, handed-by k year word g)
+    of-kind g = rw (e, two y₁ y₀, two w₁ w₀, ← y, ← w, handed-by k date g, unmarked k date g)
+
+    pub not-of-kind : given (handed k date) ≡ false → inBits (entryOf five) ≡ Refused notOfKind
+    unfolding entryFrom
+    not-of-kind g = rw (e, two y₁ y₀, two w₁ w₀, ← y, ← w, handed-by k date g)
 
 -- ---- the record of a date handed in
 
@@ -110,14 +113,13 @@ unfolding bigBytes
 five-long k d = refl
 
 module _ (k : Kind) (d : Packed) where
-  pub entry-given : given (handedIn (kindOf k) (d .year) (d .word)) ≡ true → entryFor (kindCode (kindOf k)) (d .year) (d .word) ≡ Gives (bytesOf k d)
+  pub entry-given : given (handed (kindOf k) (bitsOf d)) ≡ true → entryFor (kindCode (kindOf k)) (bitsOf d) ≡ Gives (bytesOf k d)
   unfolding entryBytes
   entry-given g =
-      entry-for (kindOf k) (d .year) (d .word)
-      ∙ rw (handed-by (kindOf k) (d .year) (d .word) g, handed-word (kindOf k) (d .year) (d .word) g)
+      entry-for (kindOf k) (bitsOf d) ∙ rw (handed-by (kindOf k) (bitsOf d) g, unmarked-word (kindOf k) (bitsOf d) g)
 
-  pub entry-not : given (handedIn (kindOf k) (d .year) (d .word)) ≡ false → entryFor (kindCode (kindOf k)) (d .year) (d .word) ≡ Refused notOfKind
-  entry-not g = entry-for (kindOf k) (d .year) (d .word) ∙ rw (handed-by (kindOf k) (d .year) (d .word) g)
+  pub entry-not : given (handed (kindOf k) (bitsOf d)) ≡ false → entryFor (kindCode (kindOf k)) (bitsOf d) ≡ Refused notOfKind
+  entry-not g = entry-for (kindOf k) (bitsOf d) ∙ rw (handed-by (kindOf k) (bitsOf d) g)
 
 -- ---- the format over the size
 

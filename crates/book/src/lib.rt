@@ -4,7 +4,7 @@ ghost use mathlib.Core.Path.{_≡_};
 ghost use mathlib.Core.Bool.{true};
 ghost use Rattle.rules.specs.Refusals.{given};
 ghost use Rattle.rules.specs.Book.{check, appendAnswer, appendBuffer, newAnswer, newBuffer, kindCode, version1, entryAt, entryFor};
-ghost use Rattle.expanded.specs.Views.{kindOf};
+ghost use Rattle.expanded.specs.Views.{kindOf, bitsOf};
 ghost use Rattle.frame.specs.Views.{startedAs};
 ghost use Rattle.book.specs.Views.{inBits, checkedAs, foundAs, appendedAs};
 use expanded::Kind;
@@ -81,8 +81,8 @@ pub fn new(b: &mut [u8]) -> Started
 
 // Writes the record of a date after the last, and gives its place. A date not of the kind is refused before the book is looked at.
 pub fn append(b: &mut [u8], kind: Kind, date: Packed) -> Appended
-    ensures { λ r. ⌜ appendedAs r ≡ appendAnswer version1 (entryFor (kindCode (kindOf kind)) (date .year) (date .word)) (now (b .entry)) ⌝ }
-    ensures { λ r. ⌜ now (b .exit) ≡ appendBuffer version1 (entryFor (kindCode (kindOf kind)) (date .year) (date .word)) (now (b .entry)) ⌝ }
+    ensures { λ r. ⌜ appendedAs r ≡ appendAnswer version1 (entryFor (kindCode (kindOf kind)) (bitsOf date)) (now (b .entry)) ⌝ }
+    ensures { λ r. ⌜ now (b .exit) ≡ appendBuffer version1 (entryFor (kindCode (kindOf kind)) (bitsOf date)) (now (b .entry)) ⌝ }
 {
     if expanded::is_of_kind(kind, date) {
         let piece = slots::bytes_of(kind, date);

@@ -27,11 +27,11 @@ abbrev pub answerOf : Operation → List ℕ → Answer Value
 answerOf O.New s = newAnswer s then λ n. Gives Done
 answerOf O.Check s = check version1 s then λ n. Gives (Number n)
 answerOf (O.Record place) s = inBits (entryAt version1 s place) then λ b. Gives (Recorded b)
-answerOf (O.Append k d) s = appendAnswer version1 (entryFor (kindCode (kindOf k)) (d .year) (d .word)) s then λ n. Gives (Number n)
+answerOf (O.Append k d) s = appendAnswer version1 (entryFor (kindCode (kindOf k)) (bitsOf d)) s then λ n. Gives (Number n)
 
 -- only new and append change the buffer
 abbrev pub bufferOf : Operation → List ℕ → List ℕ
 bufferOf O.New s = newBuffer (version1 .frame .version) s
 bufferOf O.Check s = s
 bufferOf (O.Record place) s = s
-bufferOf (O.Append k d) s = appendBuffer version1 (entryFor (kindCode (kindOf k)) (d .year) (d .word)) s
+bufferOf (O.Append k d) s = appendBuffer version1 (entryFor (kindCode (kindOf k)) (bitsOf d)) s

@@ -2,8 +2,8 @@
 ghost use mathlib.Core.Path.{_≡_};
 ghost use Prim.Native.Nat.{_≤_};
 ghost use lib.ListN.{length};
-ghost use Rattle.rules.specs.Refusals.{Gives, _then_};
-ghost use Rattle.rules.specs.Kinds.{kD, unpacked, least, greatest, fromFields, handedIn, stored, store};
+ghost use Rattle.rules.specs.Refusals.{Gives};
+ghost use Rattle.rules.specs.Kinds.{kD, unpacked, least, greatest, fromFields, stored, store, ofDate, ofDates};
 ghost use Rattle.rules.specs.Numbers.{readNumber, guessNumber, writeNumber};
 ghost use Rattle.rules.specs.Days.{addDays, difference, order};
 ghost use Rattle.rules.specs.Text.{plusAllowed, shapeAllowed, readText};
@@ -146,21 +146,21 @@ impl Date {
     }
 
     pub fn month(self) -> u8
-        ensures { λ r. ⌜ r ≡ unpacked (self .raw .year) (self .raw .word) .month ⌝ }
+        ensures { λ r. ⌜ r ≡ unpacked (bits self) .month ⌝ }
     {
-        (self.raw.word / 4096) as u8
+        expanded::month_of(self.raw)
     }
 
     pub fn day(self) -> u8
-        ensures { λ r. ⌜ r ≡ unpacked (self .raw .year) (self .raw .word) .day ⌝ }
+        ensures { λ r. ⌜ r ≡ unpacked (bits self) .day ⌝ }
     {
-        (self.raw.word / 128 % 32) as u8
+        expanded::day_of(self.raw)
     }
 
     pub fn hour(self) -> u8
-        ensures { λ r. ⌜ r ≡ unpacked (self .raw .year) (self .raw .word) .hour ⌝ }
+        ensures { λ r. ⌜ r ≡ unpacked (bits self) .hour ⌝ }
     {
-        (self.raw.word / 4 % 32) as u8
+        expanded::hour_of(self.raw)
     }
 
     // The plain reader: the length, D's own rules, the leading number, the rest.
@@ -218,14 +218,14 @@ impl Date {
     }
 
     pub fn to_binary(self) -> Written
-        ensures { λ r. ⌜ writtenAs r ≡ (handedIn kD (self .raw .year) (self .raw .word) then λ f. writeNumber kD f) ⌝ }
+        ensures { λ r. ⌜ writtenAs r ≡ ofDate kD (bits self) (λ f. writeNumber kD f) ⌝ }
     {
         number::to_binary(Kind::Date, self.raw)
     }
 
     // A new date; the old one stays.
     pub fn add_days(self, days: i32) -> Summed
-        ensures { λ r. ⌜ summed r ≡ store (handedIn kD (self .raw .year) (self .raw .word) then λ f. addDays kD f days) ⌝ }
+        ensures { λ r. ⌜ summed r ≡ store (ofDate kD (bits self) (λ f. addDays kD f days)) ⌝ }
     {
         let sum = day_count::add_days(Kind::Date, self.raw, days);
         match sum {
@@ -237,21 +237,21 @@ impl Date {
     }
 
     pub fn days_until(self, other: Date) -> Days
-        ensures { λ r. ⌜ counted r ≡ (handedIn kD (self .raw .year) (self .raw .word) then λ f. handedIn kD (other .raw .year) (other .raw .word) then λ g. difference kD f g) ⌝ }
+        ensures { λ r. ⌜ counted r ≡ ofDates kD (bits self) (bits other) (λ f g. difference kD f g) ⌝ }
     {
         day_count::days_until(Kind::Date, self.raw, other.raw)
     }
 
     pub fn compare(self, other: Date) -> Ordered
-        ensures { λ r. ⌜ ordered r ≡ (handedIn kD (self .raw .year) (self .raw .word) then λ f. handedIn kD (other .raw .year) (other .raw .word) then λ g. Gives (order f g)) ⌝ }
+        ensures { λ r. ⌜ ordered r ≡ ofDates kD (bits self) (bits other) (λ f g. Gives (order f g)) ⌝ }
     {
         expanded::compare(Kind::Date, self.raw, other.raw)
     }
 
     // The dotted text at the front of a buffer.
     pub fn game_fmt(self, out: &mut [u8]) -> Spelled
-        ensures { λ r. ⌜ spelled r ≡ putAnswer (handedIn kD (self .raw .year) (self .raw .word) then λ f. Gives (dotted kD f)) (now (out .entry)) ⌝ }
-        ensures { λ _. ⌜ now (out .exit) ≡ putBuffer (handedIn kD (self .raw .year) (self .raw .word) then λ f. Gives (dotted kD f)) (now (out .entry)) ⌝ }
+        ensures { λ r. ⌜ spelled r ≡ putAnswer (ofDate kD (bits self) (λ f. Gives (dotted kD f))) (now (out .entry)) ⌝ }
+        ensures { λ _. ⌜ now (out .exit) ≡ putBuffer (ofDate kD (bits self) (λ f. Gives (dotted kD f))) (now (out .entry)) ⌝ }
         ensures { λ r. ⌜ lengthOf r ≤ length (now (out .entry)) ⌝ }
     {
         formatter::game_fmt(Kind::Date, self.raw, out)
@@ -259,8 +259,8 @@ impl Date {
 
     // The ISO text.
     pub fn iso_8601(self, out: &mut [u8]) -> Spelled
-        ensures { λ r. ⌜ spelled r ≡ putAnswer (handedIn kD (self .raw .year) (self .raw .word) then λ f. Gives (iso kD f)) (now (out .entry)) ⌝ }
-        ensures { λ _. ⌜ now (out .exit) ≡ putBuffer (handedIn kD (self .raw .year) (self .raw .word) then λ f. Gives (iso kD f)) (now (out .entry)) ⌝ }
+        ensures { λ r. ⌜ spelled r ≡ putAnswer (ofDate kD (bits self) (λ f. Gives (iso kD f))) (now (out .entry)) ⌝ }
+        ensures { λ _. ⌜ now (out .exit) ≡ putBuffer (ofDate kD (bits self) (λ f. Gives (iso kD f))) (now (out .entry)) ⌝ }
         ensures { λ r. ⌜ lengthOf r ≤ length (now (out .entry)) ⌝ }
     {
         formatter::iso_8601(Kind::Date, self.raw, out)
@@ -268,8 +268,8 @@ impl Date {
 
     // The exchange text.
     pub fn exchange(self, out: &mut [u8]) -> Spelled
-        ensures { λ r. ⌜ spelled r ≡ putAnswer (handedIn kD (self .raw .year) (self .raw .word) then λ f. Gives (exchange kD f)) (now (out .entry)) ⌝ }
-        ensures { λ _. ⌜ now (out .exit) ≡ putBuffer (handedIn kD (self .raw .year) (self .raw .word) then λ f. Gives (exchange kD f)) (now (out .entry)) ⌝ }
+        ensures { λ r. ⌜ spelled r ≡ putAnswer (ofDate kD (bits self) (λ f. Gives (exchange kD f))) (now (out .entry)) ⌝ }
+        ensures { λ _. ⌜ now (out .exit) ≡ putBuffer (ofDate kD (bits self) (λ f. Gives (exchange kD f))) (now (out .entry)) ⌝ }
         ensures { λ r. ⌜ lengthOf r ≤ length (now (out .entry)) ⌝ }
     {
         formatter::exchange(Kind::Date, self.raw, out)

@@ -2,8 +2,8 @@
 ghost use mathlib.Core.Path.{_≡_};
 ghost use Prim.Native.Nat.{_≤_};
 ghost use lib.ListN.{length};
-ghost use Rattle.rules.specs.Refusals.{Gives, _then_};
-ghost use Rattle.rules.specs.Kinds.{kH, unpacked, least, greatest, fromFields, handedIn, stored, store};
+ghost use Rattle.rules.specs.Refusals.{Gives};
+ghost use Rattle.rules.specs.Kinds.{kH, unpacked, least, greatest, fromFields, stored, store, ofDate, ofDates};
 ghost use Rattle.rules.specs.Numbers.{readNumber, guessNumber, writeNumber};
 ghost use Rattle.rules.specs.Days.{order};
 ghost use Rattle.rules.specs.Text.{readText};
@@ -93,21 +93,21 @@ impl DateHour {
     }
 
     pub fn month(self) -> u8
-        ensures { λ r. ⌜ r ≡ unpacked (self .raw .year) (self .raw .word) .month ⌝ }
+        ensures { λ r. ⌜ r ≡ unpacked (bits self) .month ⌝ }
     {
-        (self.raw.word / 4096) as u8
+        expanded::month_of(self.raw)
     }
 
     pub fn day(self) -> u8
-        ensures { λ r. ⌜ r ≡ unpacked (self .raw .year) (self .raw .word) .day ⌝ }
+        ensures { λ r. ⌜ r ≡ unpacked (bits self) .day ⌝ }
     {
-        (self.raw.word / 128 % 32) as u8
+        expanded::day_of(self.raw)
     }
 
     pub fn hour(self) -> u8
-        ensures { λ r. ⌜ r ≡ unpacked (self .raw .year) (self .raw .word) .hour ⌝ }
+        ensures { λ r. ⌜ r ≡ unpacked (bits self) .hour ⌝ }
     {
-        (self.raw.word / 4 % 32) as u8
+        expanded::hour_of(self.raw)
     }
 
     pub fn parse(s: &[u8]) -> Parsed
@@ -149,21 +149,21 @@ impl DateHour {
     }
 
     pub fn to_binary(self) -> Written
-        ensures { λ r. ⌜ writtenAs r ≡ (handedIn kH (self .raw .year) (self .raw .word) then λ f. writeNumber kH f) ⌝ }
+        ensures { λ r. ⌜ writtenAs r ≡ ofDate kH (bits self) (λ f. writeNumber kH f) ⌝ }
     {
         number::to_binary(Kind::Hour, self.raw)
     }
 
     pub fn compare(self, other: DateHour) -> Ordered
-        ensures { λ r. ⌜ ordered r ≡ (handedIn kH (self .raw .year) (self .raw .word) then λ f. handedIn kH (other .raw .year) (other .raw .word) then λ g. Gives (order f g)) ⌝ }
+        ensures { λ r. ⌜ ordered r ≡ ofDates kH (bits self) (bits other) (λ f g. Gives (order f g)) ⌝ }
     {
         expanded::compare(Kind::Hour, self.raw, other.raw)
     }
 
     // The dotted text at the front of a buffer.
     pub fn game_fmt(self, out: &mut [u8]) -> Spelled
-        ensures { λ r. ⌜ spelled r ≡ putAnswer (handedIn kH (self .raw .year) (self .raw .word) then λ f. Gives (dotted kH f)) (now (out .entry)) ⌝ }
-        ensures { λ _. ⌜ now (out .exit) ≡ putBuffer (handedIn kH (self .raw .year) (self .raw .word) then λ f. Gives (dotted kH f)) (now (out .entry)) ⌝ }
+        ensures { λ r. ⌜ spelled r ≡ putAnswer (ofDate kH (bits self) (λ f. Gives (dotted kH f))) (now (out .entry)) ⌝ }
+        ensures { λ _. ⌜ now (out .exit) ≡ putBuffer (ofDate kH (bits self) (λ f. Gives (dotted kH f))) (now (out .entry)) ⌝ }
         ensures { λ r. ⌜ lengthOf r ≤ length (now (out .entry)) ⌝ }
     {
         formatter::game_fmt(Kind::Hour, self.raw, out)
@@ -171,8 +171,8 @@ impl DateHour {
 
     // The ISO text.
     pub fn iso_8601(self, out: &mut [u8]) -> Spelled
-        ensures { λ r. ⌜ spelled r ≡ putAnswer (handedIn kH (self .raw .year) (self .raw .word) then λ f. Gives (iso kH f)) (now (out .entry)) ⌝ }
-        ensures { λ _. ⌜ now (out .exit) ≡ putBuffer (handedIn kH (self .raw .year) (self .raw .word) then λ f. Gives (iso kH f)) (now (out .entry)) ⌝ }
+        ensures { λ r. ⌜ spelled r ≡ putAnswer (ofDate kH (bits self) (λ f. Gives (iso kH f))) (now (out .entry)) ⌝ }
+        ensures { λ _. ⌜ now (out .exit) ≡ putBuffer (ofDate kH (bits self) (λ f. Gives (iso kH f))) (now (out .entry)) ⌝ }
         ensures { λ r. ⌜ lengthOf r ≤ length (now (out .entry)) ⌝ }
     {
         formatter::iso_8601(Kind::Hour, self.raw, out)
@@ -180,8 +180,8 @@ impl DateHour {
 
     // The exchange text.
     pub fn exchange(self, out: &mut [u8]) -> Spelled
-        ensures { λ r. ⌜ spelled r ≡ putAnswer (handedIn kH (self .raw .year) (self .raw .word) then λ f. Gives (exchange kH f)) (now (out .entry)) ⌝ }
-        ensures { λ _. ⌜ now (out .exit) ≡ putBuffer (handedIn kH (self .raw .year) (self .raw .word) then λ f. Gives (exchange kH f)) (now (out .entry)) ⌝ }
+        ensures { λ r. ⌜ spelled r ≡ putAnswer (ofDate kH (bits self) (λ f. Gives (exchange kH f))) (now (out .entry)) ⌝ }
+        ensures { λ _. ⌜ now (out .exit) ≡ putBuffer (ofDate kH (bits self) (λ f. Gives (exchange kH f))) (now (out .entry)) ⌝ }
         ensures { λ r. ⌜ lengthOf r ≤ length (now (out .entry)) ⌝ }
     {
         formatter::exchange(Kind::Hour, self.raw, out)

@@ -12,15 +12,14 @@ use mir.Facts.{toZ-ofZ}
 use Rattle.sign.specs.Halves.{up, dn, Halved}
 use Rattle.sign.proofs.Laws.{same, ints, one-side, yes-lt, no-lt, yes-le, no-le}
 use Rattle.rules.specs.Words.{minus}
-use Rattle.rules.specs.Refusals.{Answer, Gives, Refused, _then_, given, notOfKind, sumOverflows, outOfRange}
+use Rattle.rules.specs.Refusals.{Answer, Gives, Refused, sumOverflows, outOfRange}
 use Rattle.rules.specs.Calendar.{monthDay, monthLength}
-use Rattle.rules.specs.Kinds.{Kind, kR, kD, kH, kU, kE, kV, Fields, ofKind, packed, unpacked, handedIn, Stored, stored, store}
-use Rattle.rules.specs.Days.{addDays, dayNumberAt, countsDays, dayFields, summed, summedHour, hasStart, startOfDay}
+use Rattle.rules.specs.Kinds.{Kind, kR, kD, kH, kU, kE, kV, Fields, ofKind, Stored, store, handed, ofDate}
+use Rattle.rules.specs.Days.{addDays, dayNumberAt, countsDays, dayFields, summed, summedHour}
 use Rattle.rules.proofs.KindLaws.{fit, month-fits}
-use Rattle.rules.proofs.OrderLaws.{hour-small}
+use Rattle.rules.proofs.OrderLaws.{day-small, hour-small}
 use Rattle.rules.proofs.PackLaws.{handed-tells}
 use Rattle.rules.proofs.DayLaws.{counter, summed-in}
-use Rattle.expanded.proofs.Laws.{handed-by}
 use Rattle.day_count.specs.declared.Sum.{Sum}
 use Rattle.day_count.specs.Views.{summedAs}
 
@@ -53,8 +52,8 @@ module _ (u d : ℕ) (o : u - d ≡ u) where
 
   pub date-is : (h : ℕ) {y : ℤ} {m t : ℕ} → y ≡ subℕ (u / 365) (d / 365) →
       m ≡ monthDay ((u + d) % 365) .month → t ≡ monthDay ((u + d) % 365) .day →
-      _≡_ {A = Stored} (record { year = y; word = m * 4096 + t * 128 + h * 4 }) (stored (dayFields (subℕ u d) h))
-  unfolding dayFields packed
+      _≡_ {A = Fields} (record { year = y; month = m; day = t; hour = h }) (dayFields (subℕ u d) h)
+  unfolding dayFields
   date-is h e f g = rw (e, f, g, year-is, day-is)
 
 -- ---- a sum: the halves of two numbers, added, and what the tests decide
@@ -108,13 +107,16 @@ module _ (u d h : ℕ) where
 
 -- ---- a date handed in, of a kind that counts days
 
-module _ (k : Kind) (y : ℤ) (w : ℕ) (f : Fields) (e : handedIn k y w ≡ Gives f) where
+module _ (k : Kind) (d : Stored) (f : Fields) (e : handed k d ≡ Gives f) where
   of-kind : ofKind k f ≡ true
-  of-kind = handed-tells k y w f e .of-kind
+  of-kind = handed-tells k d f e .of-kind
 
   pub on-calendar : countsDays k ≡ true → (1 ≤ f .month) × (f .month ≤ 12) × (1 ≤ f .day) × (f .day ≤ monthLength (f .month))
   on-calendar c =
       let t = fit k f of-kind in (t .month-low, t .month-high, t .day-low, month-fits k (counter k c) f of-kind)
+
+  pub small-fields : (f .month < 16) × (f .day < 32)
+  small-fields = let t = fit k f of-kind in (omega (arith, t .month-high), day-small k f of-kind)
 
   pub hour-low : summedHour k (f .hour) < 32
   hour-low = low-by k (hour-small k f of-kind)
@@ -127,38 +129,9 @@ module _ (k : Kind) (y : ℤ) (w : ℕ) (f : Fields) (e : handedIn k y w ≡ Giv
       low-by kE l = omega arith
       low-by kV l = l
 
--- ---- a kind that counts no days refuses every date handed in
-
-module _ (k : Kind) (y : ℤ) (w : ℕ) where
-  pub lacking : {A : Type 0} → _≡_ {A = Answer A} (handedIn k y w then λ f. Refused notOfKind) (Refused notOfKind)
-  lacking {A} = by (given (handedIn k y w)) refl
-    where
-      by : (t : Bool) → given (handedIn k y w) ≡ t → _≡_ {A = Answer A} (handedIn k y w then λ f. Refused notOfKind) (Refused notOfKind)
-      by true e = rw (handed-by k y w e)
-      by false e = rw (handed-by k y w e)
-
--- ---- the start of a day, by what was tested of the date and of its kind
-
-module _ (k : Kind) (y : ℤ) (w : ℕ) where
-  abbrev start : Answer Stored
-  start = store (handedIn k y w then λ f. startOfDay k f)
-
-  pub start-is : given (handedIn k y w) ≡ true → hasStart k ≡ true → start ≡ Gives (record { year = y; word = w / 128 * 128 })
-  unfolding startOfDay packed
-  start-is e s =
-      let word : w / 4096 * 4096 + w / 128 % 32 * 128 + 0 * 4 ≡ w / 128 * 128 = omega arith in
-      rw (handed-by k y w e, s, word)
-
-  pub start-lacking : given (handedIn k y w) ≡ true → hasStart k ≡ false → start ≡ Refused notOfKind
-  unfolding startOfDay
-  start-lacking e s = rw (handed-by k y w e, s)
-
-  pub start-refused : given (handedIn k y w) ≡ false → start ≡ Refused notOfKind
-  start-refused e = rw (handed-by k y w e)
-
 -- ---- a kind's answer, from the core's: the days come to it as 32 bits
 
-pub sum-told : (k : Kind) (y : ℤ) (w : ℕ) {days : ℤ} {sum r : Sum} → SFits w32 days →
-    summedAs sum ≡ store (handedIn k y w then λ f. addDays k f (toZ w32 (ofZ w32 days))) → sum ≡ r →
-    summedAs r ≡ store (handedIn k y w then λ f. addDays k f days)
-sum-told k y w fits is same = ap summedAs (sym same) ∙ (rw (toZ-ofZ fits) at is)
+pub sum-told : (k : Kind) (d : Stored) {days : ℤ} {sum r : Sum} → SFits w32 days →
+    summedAs sum ≡ store (ofDate k d (λ f. addDays k f (toZ w32 (ofZ w32 days)))) → sum ≡ r →
+    summedAs r ≡ store (ofDate k d (λ f. addDays k f days))
+sum-told k d fits is same = ap summedAs (sym same) ∙ (rw (toZ-ofZ fits) at is)

@@ -1,17 +1,17 @@
 // Days counted: a date moved by days, the days from one date to another, and the start of a date's day, over the kind.
-// Each date handed in goes through `unpack` or `is_of_kind` first; a kind that lacks the operation answers as for a date not its own.
+// Each date handed in goes through `unpack` first; a kind that lacks the operation answers as for a date not its own.
 // A day number is kept as its two halves: 365 × year ± day of year, the day going away from year 0 on both sides.
 ghost use mathlib.Core.Path.{_≡_};
 ghost use Prim.Native.Nat.{_-_, _≤_, _<_};
 ghost use lib.IntN.{subℕ, _+ℤ_, _-ℤ_};
 ghost use Rattle.sign.specs.Halves.{Halved};
-ghost use Rattle.rules.specs.Refusals.{_then_};
-ghost use Rattle.rules.specs.Kinds.{handedIn, stored, store};
+ghost use Rattle.rules.specs.Kinds.{stored, store, ofDate, ofDates};
 ghost use Rattle.rules.specs.Days.{dayNumberAt, dayNumber, countsDays, difference, dayFields, summed, summedHour, addDays, hasStart, startOfDay};
 ghost use Rattle.expanded.specs.Views.{kindOf, fieldsOf, bitsOf};
 ghost use Rattle.day_count.specs.Views.{summedAs, counted, started, OnCalendar};
 use expanded::ExpandedRawDate;
 use expanded::Kind;
+use expanded::NO_MARK;
 use expanded::Opened;
 use expanded::Packed;
 use sign::Halves;
@@ -117,10 +117,13 @@ fn date_of(up: u64, dn: u64, hour: u8) -> Packed
     let year = sign::int16(up / 365, dn / 365);
     let doy = ((up + dn) % 365) as u16;
     let on = julian::month_day_from_julian(doy);
-    let month = on.month;
-    let day = on.day;
-    let word = month as u16 * 4096 + day as u16 * 128 + hour as u16 * 4;
-    Packed { year, word }
+    let fields = ExpandedRawDate {
+        year,
+        month: on.month,
+        day: on.day,
+        hour,
+    };
+    expanded::pack(NO_MARK, fields)
 }
 
 // The date of the number up - dn, with this hour, or why there is none. The range is narrower than 32 bits, so a date is
@@ -163,7 +166,7 @@ fn moved(date: ExpandedRawDate, days: i32, hour: u8) -> Sum
 
 // A date moved by days: its number and the days summed. Past 32 bits the sum overflows; outside the years it is out of range.
 pub fn add_days(kind: Kind, date: Packed, days: i32) -> Sum
-    ensures { λ r. ⌜ summedAs r ≡ store (handedIn (kindOf kind) (date .year) (date .word) then λ f. addDays (kindOf kind) f days) ⌝ }
+    ensures { λ r. ⌜ summedAs r ≡ store (ofDate (kindOf kind) (bitsOf date) (λ f. addDays (kindOf kind) f days)) ⌝ }
 {
     if counts_days(kind) {
         let opened = expanded::unpack(kind, date);
@@ -192,7 +195,7 @@ fn between(first: ExpandedRawDate, second: ExpandedRawDate) -> i32
 
 // The days from the first date to the second, whatever their hours.
 pub fn days_until(kind: Kind, first: Packed, second: Packed) -> Days
-    ensures { λ r. ⌜ counted r ≡ (handedIn (kindOf kind) (first .year) (first .word) then λ f. handedIn (kindOf kind) (second .year) (second .word) then λ g. difference (kindOf kind) f g) ⌝ }
+    ensures { λ r. ⌜ counted r ≡ ofDates (kindOf kind) (bitsOf first) (bitsOf second) (λ f g. difference (kindOf kind) f g) ⌝ }
 {
     if counts_days(kind) {
         let a = expanded::unpack(kind, first);
@@ -211,18 +214,21 @@ pub fn days_until(kind: Kind, first: Packed, second: Packed) -> Days
 
 // The same date with hour 0.
 pub fn start_of_day(kind: Kind, date: Packed) -> Start
-    ensures { λ r. ⌜ started r ≡ store (handedIn (kindOf kind) (date .year) (date .word) then λ f. startOfDay (kindOf kind) f) ⌝ }
+    ensures { λ r. ⌜ started r ≡ store (ofDate (kindOf kind) (bitsOf date) (λ f. startOfDay (kindOf kind) f)) ⌝ }
 {
-    if expanded::is_of_kind(kind, date) {
-        if has_start(kind) {
-            let year = date.year;
-            let word = date.word;
-            return Start::Date(Packed {
-                year,
-                word: word / 128 * 128,
-            });
-        }
-        return Start::NotOfKind;
+    if has_start(kind) {
+        let opened = expanded::unpack(kind, date);
+        let Opened::Fields(on) = opened else {
+            return Start::NotOfKind;
+        };
+        let fields = ExpandedRawDate {
+            year: on.year,
+            month: on.month,
+            day: on.day,
+            hour: 0,
+        };
+        Start::Date(expanded::pack(NO_MARK, fields))
+    } else {
+        Start::NotOfKind
     }
-    Start::NotOfKind
 }

@@ -2,8 +2,8 @@
 ghost use mathlib.Core.Path.{_≡_};
 ghost use Prim.Native.Nat.{_≤_};
 ghost use lib.ListN.{length};
-ghost use Rattle.rules.specs.Refusals.{Gives, _then_};
-ghost use Rattle.rules.specs.Kinds.{kE, inGameHour, unpacked, least, greatest, fromFields, handedIn, stored, store};
+ghost use Rattle.rules.specs.Refusals.{Gives};
+ghost use Rattle.rules.specs.Kinds.{kE, inGameHour, unpacked, least, greatest, fromFields, stored, store, ofDate, ofDates};
 ghost use Rattle.rules.specs.Numbers.{readNumber, guessNumber};
 ghost use Rattle.rules.specs.Days.{addDays, difference, startOfDay, order};
 ghost use Rattle.rules.specs.Text.{readText};
@@ -114,27 +114,27 @@ impl Eu5Date {
     }
 
     pub fn month(self) -> u8
-        ensures { λ r. ⌜ r ≡ unpacked (self .raw .year) (self .raw .word) .month ⌝ }
+        ensures { λ r. ⌜ r ≡ unpacked (bits self) .month ⌝ }
     {
-        (self.raw.word / 4096) as u8
+        expanded::month_of(self.raw)
     }
 
     pub fn day(self) -> u8
-        ensures { λ r. ⌜ r ≡ unpacked (self .raw .year) (self .raw .word) .day ⌝ }
+        ensures { λ r. ⌜ r ≡ unpacked (bits self) .day ⌝ }
     {
-        (self.raw.word / 128 % 32) as u8
+        expanded::day_of(self.raw)
     }
 
     // The hour component as it is stored: 0 for 08:00, 2 for 09:00, to 22 for 19:00.
     pub fn component(self) -> u8
-        ensures { λ r. ⌜ r ≡ unpacked (self .raw .year) (self .raw .word) .hour ⌝ }
+        ensures { λ r. ⌜ r ≡ unpacked (bits self) .hour ⌝ }
     {
-        (self.raw.word / 4 % 32) as u8
+        expanded::hour_of(self.raw)
     }
 
     // The in-game hour, as jomini's `hour` gives it.
     pub fn hour(self) -> InGame
-        ensures { λ r. ⌜ inGame r ≡ (handedIn kE (self .raw .year) (self .raw .word) then λ f. Gives (inGameHour (f .hour))) ⌝ }
+        ensures { λ r. ⌜ inGame r ≡ ofDate kE (bits self) (λ f. Gives (inGameHour (f .hour))) ⌝ }
     {
         let opened = expanded::unpack(Kind::Eu5, self.raw);
         match opened {
@@ -186,7 +186,7 @@ impl Eu5Date {
 
     // A new date; the old one stays.
     pub fn add_days(self, days: i32) -> Summed
-        ensures { λ r. ⌜ summed r ≡ store (handedIn kE (self .raw .year) (self .raw .word) then λ f. addDays kE f days) ⌝ }
+        ensures { λ r. ⌜ summed r ≡ store (ofDate kE (bits self) (λ f. addDays kE f days)) ⌝ }
     {
         let sum = day_count::add_days(Kind::Eu5, self.raw, days);
         match sum {
@@ -198,14 +198,14 @@ impl Eu5Date {
     }
 
     pub fn days_until(self, other: Eu5Date) -> Days
-        ensures { λ r. ⌜ counted r ≡ (handedIn kE (self .raw .year) (self .raw .word) then λ f. handedIn kE (other .raw .year) (other .raw .word) then λ g. difference kE f g) ⌝ }
+        ensures { λ r. ⌜ counted r ≡ ofDates kE (bits self) (bits other) (λ f g. difference kE f g) ⌝ }
     {
         day_count::days_until(Kind::Eu5, self.raw, other.raw)
     }
 
     // The same date at 08:00.
     pub fn start_of_day(self) -> Started
-        ensures { λ r. ⌜ started r ≡ store (handedIn kE (self .raw .year) (self .raw .word) then λ f. startOfDay kE f) ⌝ }
+        ensures { λ r. ⌜ started r ≡ store (ofDate kE (bits self) (λ f. startOfDay kE f)) ⌝ }
     {
         let start = day_count::start_of_day(Kind::Eu5, self.raw);
         match start {
@@ -215,15 +215,15 @@ impl Eu5Date {
     }
 
     pub fn compare(self, other: Eu5Date) -> Ordered
-        ensures { λ r. ⌜ ordered r ≡ (handedIn kE (self .raw .year) (self .raw .word) then λ f. handedIn kE (other .raw .year) (other .raw .word) then λ g. Gives (order f g)) ⌝ }
+        ensures { λ r. ⌜ ordered r ≡ ofDates kE (bits self) (bits other) (λ f g. Gives (order f g)) ⌝ }
     {
         expanded::compare(Kind::Eu5, self.raw, other.raw)
     }
 
     // The dotted text at the front of a buffer.
     pub fn game_fmt(self, out: &mut [u8]) -> Spelled
-        ensures { λ r. ⌜ spelled r ≡ putAnswer (handedIn kE (self .raw .year) (self .raw .word) then λ f. Gives (dotted kE f)) (now (out .entry)) ⌝ }
-        ensures { λ _. ⌜ now (out .exit) ≡ putBuffer (handedIn kE (self .raw .year) (self .raw .word) then λ f. Gives (dotted kE f)) (now (out .entry)) ⌝ }
+        ensures { λ r. ⌜ spelled r ≡ putAnswer (ofDate kE (bits self) (λ f. Gives (dotted kE f))) (now (out .entry)) ⌝ }
+        ensures { λ _. ⌜ now (out .exit) ≡ putBuffer (ofDate kE (bits self) (λ f. Gives (dotted kE f))) (now (out .entry)) ⌝ }
         ensures { λ r. ⌜ lengthOf r ≤ length (now (out .entry)) ⌝ }
     {
         formatter::game_fmt(Kind::Eu5, self.raw, out)
@@ -231,8 +231,8 @@ impl Eu5Date {
 
     // The ISO text.
     pub fn iso_8601(self, out: &mut [u8]) -> Spelled
-        ensures { λ r. ⌜ spelled r ≡ putAnswer (handedIn kE (self .raw .year) (self .raw .word) then λ f. Gives (iso kE f)) (now (out .entry)) ⌝ }
-        ensures { λ _. ⌜ now (out .exit) ≡ putBuffer (handedIn kE (self .raw .year) (self .raw .word) then λ f. Gives (iso kE f)) (now (out .entry)) ⌝ }
+        ensures { λ r. ⌜ spelled r ≡ putAnswer (ofDate kE (bits self) (λ f. Gives (iso kE f))) (now (out .entry)) ⌝ }
+        ensures { λ _. ⌜ now (out .exit) ≡ putBuffer (ofDate kE (bits self) (λ f. Gives (iso kE f))) (now (out .entry)) ⌝ }
         ensures { λ r. ⌜ lengthOf r ≤ length (now (out .entry)) ⌝ }
     {
         formatter::iso_8601(Kind::Eu5, self.raw, out)
@@ -240,8 +240,8 @@ impl Eu5Date {
 
     // The exchange text.
     pub fn exchange(self, out: &mut [u8]) -> Spelled
-        ensures { λ r. ⌜ spelled r ≡ putAnswer (handedIn kE (self .raw .year) (self .raw .word) then λ f. Gives (exchange kE f)) (now (out .entry)) ⌝ }
-        ensures { λ _. ⌜ now (out .exit) ≡ putBuffer (handedIn kE (self .raw .year) (self .raw .word) then λ f. Gives (exchange kE f)) (now (out .entry)) ⌝ }
+        ensures { λ r. ⌜ spelled r ≡ putAnswer (ofDate kE (bits self) (λ f. Gives (exchange kE f))) (now (out .entry)) ⌝ }
+        ensures { λ _. ⌜ now (out .exit) ≡ putBuffer (ofDate kE (bits self) (λ f. Gives (exchange kE f))) (now (out .entry)) ⌝ }
         ensures { λ r. ⌜ lengthOf r ≤ length (now (out .entry)) ⌝ }
     {
         formatter::exchange(Kind::Eu5, self.raw, out)
@@ -249,8 +249,8 @@ impl Eu5Date {
 
     // The ISO date alone.
     pub fn date_fmt(self, out: &mut [u8]) -> Spelled
-        ensures { λ r. ⌜ spelled r ≡ putAnswer (handedIn kE (self .raw .year) (self .raw .word) then λ f. isoDateAlone kE f) (now (out .entry)) ⌝ }
-        ensures { λ _. ⌜ now (out .exit) ≡ putBuffer (handedIn kE (self .raw .year) (self .raw .word) then λ f. isoDateAlone kE f) (now (out .entry)) ⌝ }
+        ensures { λ r. ⌜ spelled r ≡ putAnswer (ofDate kE (bits self) (λ f. isoDateAlone kE f)) (now (out .entry)) ⌝ }
+        ensures { λ _. ⌜ now (out .exit) ≡ putBuffer (ofDate kE (bits self) (λ f. isoDateAlone kE f)) (now (out .entry)) ⌝ }
         ensures { λ r. ⌜ lengthOf r ≤ length (now (out .entry)) ⌝ }
     {
         formatter::date_fmt(Kind::Eu5, self.raw, out)

@@ -3,8 +3,8 @@ use mathlib.Core.Path.{_≡_, refl, sym, ap, _∙_}
 use mathlib.Core.Bool.{Bool, true, false, _&&_, and-false}
 use Prim.Native.Nat.{ℕ, _+_, _*_, _/_, _%_, _≤_, _<_}
 use native.Mathlib.Omega.{arith}
-use borrow.Author.Tests.{le-leb, eq-eqb, ne-eqb}
-use lib.Dec.{eqb}
+use borrow.Author.Tests.{le-leb, lt-ltb, le-ltb, ltb-true, ltb-false}
+use lib.Dec.{ltb}
 use lib.IntN.{ℤ, pos}
 use mir.Syntax.{w16}
 use mir.Val.{toZ, ofZ, SFits}
@@ -13,11 +13,11 @@ use Rattle.sign.proofs.Laws.{yes-le, one-side}
 use Rattle.sign.proofs.Bits.{Within, fits-tells}
 use Rattle.rules.specs.Words.{minus, fits16}
 use Rattle.rules.specs.Refusals.{Answer, Gives, Refused, _then_, demand, given, notOfKind}
-use Rattle.rules.specs.Kinds.{Kind, Fields, daysIn, hourFits, fieldSetHour, fromFields, store, fitsKind, ofKind, made, packed, unpacked, handedIn}
+use Rattle.rules.specs.Kinds.{Kind, Fields, Stored, daysIn, hourFits, fieldSetHour, fromFields, store, fitsKind, ofKind, made, markOf, markAllowed, unpacked, handed, ofDates}
 use Rattle.rules.specs.Days.{Order, Same, byZ, byN, order}
 use Rattle.rules.proofs.KindLaws.{Fit, fit}
 use Rattle.rules.proofs.OrderLaws.{day-small, hour-small}
-use Rattle.rules.proofs.PackLaws.{Handed, handed-tells}
+use Rattle.rules.proofs.PackLaws.{word-alone, handed-by}
 use Rattle.expanded.specs.declared.Made.{Made}
 use Rattle.expanded.specs.Views.{answer}
 
@@ -44,50 +44,54 @@ pub made-is : (k : Kind) (n : ℕ) (f : Fields) {t : Bool} → SFits w16 (f .yea
 unfolding made ofKind
 made-is k n f y e = rw (year-fits (f .year) y, e)
 
--- what the opener gives, by its two tests
-pub low-bits-set : (k : Kind) (y : ℤ) (w : ℕ) → 0 < w % 4 → handedIn k y w ≡ Refused notOfKind
-unfolding handedIn
-low-bits-set k y w h = rw (ne-eqb (w % 4) 0 (λ e. omega arith))
+-- ---- a date handed in, by the opener's two tests
 
-pub handed-is : (k : Kind) (y : ℤ) (w : ℕ) {t : Bool} → w % 4 ≤ 0 → SFits w16 y → fitsKind k (w / 4096) (w / 128 % 32) (w / 4 % 32) ≡ t →
-    handedIn k y w ≡ demand t notOfKind (Gives (record { year = y; month = w / 4096; day = w / 128 % 32; hour = w / 4 % 32 }))
-unfolding handedIn
-handed-is k y w h f e = rw (eq-eqb (w % 4) 0 (omega arith)) (made-is k notOfKind (unpacked y w) f e)
+module _ (k : Kind) (d : Stored) where
+  pub mark-refused : markAllowed (markOf (d .word)) ≡ false → handed k d ≡ Refused notOfKind
+  unfolding handed
+  mark-refused e = rw e
 
--- fields that do not fit are refused, whatever the year
-pub handed-not : (k : Kind) (y : ℤ) (w : ℕ) → w % 4 ≤ 0 → fitsKind k (w / 4096) (w / 128 % 32) (w / 4 % 32) ≡ false → handedIn k y w ≡ Refused notOfKind
-unfolding handedIn made ofKind
-handed-not k y w h e = rw (eq-eqb (w % 4) 0 (omega arith), e, and-false (fits16 y))
+  module _ (allowed : markAllowed (markOf (d .word)) ≡ true) {f : Fields} (is : f ≡ unpacked d) where
+    pub handed-is : SFits w16 (f .year) → fitsKind k (f .month) (f .day) (f .hour) ≡ true → handed k d ≡ Gives f
+    unfolding handed made ofKind
+    handed-is y e =
+        let fits : ofKind k f ≡ true = rw (year-fits (f .year) y, e) in
+        rw (allowed, sym (ap (ofKind k) is) ∙ fits) (ap Gives (sym is))
+
+    -- fields that do not fit are refused, whatever the year
+    pub handed-not : fitsKind k (f .month) (f .day) (f .hour) ≡ false → handed k d ≡ Refused notOfKind
+    unfolding handed made ofKind
+    handed-not e =
+        let fits : ofKind k f ≡ false = rw (e, and-false (fits16 (f .year))) in
+        rw (allowed, sym (ap (ofKind k) is) ∙ fits)
 
 -- ---- two dates handed in, in order
 
-pub handed-by : (k : Kind) (y : ℤ) (w : ℕ) {t : Bool} → given (handedIn k y w) ≡ t → handedIn k y w ≡ demand t notOfKind (Gives (unpacked y w))
-unfolding handedIn made
-handed-by k y w e = inner (eqb (w % 4) 0) (ofKind k (unpacked y w)) e
-  where
-    inner : (s t : Bool) {u : Bool} → given (demand s notOfKind (demand t notOfKind (Gives (unpacked y w)))) ≡ u →
-        demand s notOfKind (demand t notOfKind (Gives (unpacked y w))) ≡ demand u notOfKind (Gives (unpacked y w))
-    inner true true e = rw (← e)
-    inner true false e = rw (← e)
-    inner false t e = rw (← e)
-
--- a date's word is that of its fields
-pub handed-word : (k : Kind) (y : ℤ) (w : ℕ) → given (handedIn k y w) ≡ true → packed (unpacked y w) ≡ w
-handed-word k y w e = handed-tells k y w (unpacked y w) (handed-by k y w e) .word-is
-
-module _ (k : Kind) (y z : ℤ) (v w : ℕ) where
+module _ (k : Kind) (d e : Stored) where
   abbrev pub compared : Answer Order
-  compared = handedIn k y v then λ f. handedIn k z w then λ g. Gives (order f g)
+  compared = ofDates k d e (λ f g. Gives (order f g))
 
-  pub first-refused : given (handedIn k y v) ≡ false → compared ≡ Refused notOfKind
-  first-refused e = rw (handed-by k y v e)
+  pub first-refused : given (handed k d) ≡ false → compared ≡ Refused notOfKind
+  first-refused p = rw (handed-by k d p)
 
-  pub second-refused : given (handedIn k y v) ≡ true → given (handedIn k z w) ≡ false → compared ≡ Refused notOfKind
-  second-refused e f = rw (handed-by k y v e, handed-by k z w f)
+  pub second-refused : given (handed k d) ≡ true → given (handed k e) ≡ false → compared ≡ Refused notOfKind
+  second-refused p q = rw (handed-by k d p, handed-by k e q)
 
-  pub in-order : given (handedIn k y v) ≡ true → given (handedIn k z w) ≡ true → compared ≡ Gives (byZ y z (byN v w Same))
-  unfolding order
-  in-order e f = rw (handed-by k y v e, handed-by k z w f, handed-word k y v e, handed-word k z w f)
+  pub in-order : given (handed k d) ≡ true → given (handed k e) ≡ true → compared ≡ Gives (order (unpacked d) (unpacked e))
+  in-order p q = rw (handed-by k d p, handed-by k e q)
+
+-- the order by the years and by the words without their marks
+pub order-words : (d e : Stored) → order (unpacked d) (unpacked e) ≡ byZ (d .year) (e .year) (byN (d .word / 4) (e .word / 4) Same)
+unfolding order
+order-words d e =
+    rw (word-alone d, word-alone e, four-less (d .word / 4) (e .word / 4), four-less (e .word / 4) (d .word / 4))
+  where
+    four-less : (a b : ℕ) → ltb (a * 4) (b * 4) ≡ ltb a b
+    four-less a b = split (ltb a b) refl
+      where
+        split : (t : Bool) → ltb a b ≡ t → ltb (a * 4) (b * 4) ≡ t
+        split true p = let h = ltb-true a b p in lt-ltb (a * 4) (b * 4) (omega arith)
+        split false p = let h = ltb-false a b p in le-ltb (a * 4) (b * 4) (omega arith)
 
 -- ---- a kind's answer, from the maker's: the year comes to it as 16 bits, the hour is the one that the kind's field sets have
 

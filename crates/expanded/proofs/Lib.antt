@@ -1,3 +1,4 @@
 pub mod HourLaws
 pub mod Laws
+pub mod SetLaws
 pub mod Determined

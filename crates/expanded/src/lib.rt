@@ -1,11 +1,20 @@
 // What the six kinds share: the kind, a date's fields, its packed word, and the one maker and the one opener over the kind.
 ghost use mathlib.Core.Path.{_≡_};
 ghost use Prim.Native.Nat.{ℕ, _≤_};
-ghost use Rattle.rules.specs.Kinds.{daysIn, hourFits, fitsKind, made, settledHour, settled, handedIn, store};
-ghost use Rattle.rules.specs.Refusals.{Gives, _then_, given};
-ghost use Rattle.rules.specs.Days.{Same, byZ, byN, order};
+ghost use Rattle.rules.specs.Kinds.{daysIn, hourFits, fitsKind, made, fieldSetHour, fromFields, settledHour, settled, unpacked, handed, ofDates, store};
+ghost use Rattle.rules.specs.Refusals.{Gives, given, notOfKind};
+ghost use Rattle.rules.specs.Days.{order};
 ghost use Rattle.expanded.specs.HourBits.{hourBits};
-ghost use Rattle.expanded.specs.Views.{kindOf, answer, opened, ordered};
+ghost use Rattle.expanded.specs.Views.{kindOf, bitsOf, answer, opened, ordered};
+pub use word::NO_MARK;
+pub use word::day_of;
+pub use word::fields_of;
+pub use word::hour_of;
+pub use word::mark_of;
+pub use word::month_of;
+pub use word::pack;
+
+mod word;
 
 // R raw, D plain, H hourly, U uniform, E EU5, V Victoria 3.
 pub enum Kind {
@@ -115,11 +124,63 @@ pub fn make(kind: Kind, year: i16, month: u8, day: u8, hour: u8) -> Made
     ensures { λ r. ⌜ ((n : ℕ) → answer n r ≡ store (made (kindOf kind) n (record { year = year; month = month; day = day; hour = hour }))) ⌝ }
 {
     if fits_kind(kind, month, day, hour) {
-        let word = month as u16 * 4096 + day as u16 * 128 + hour as u16 * 4;
-        Made::Date(Packed { year, word })
+        let fields = ExpandedRawDate {
+            year,
+            month,
+            day,
+            hour,
+        };
+        Made::Date(pack(NO_MARK, fields))
     } else {
         Made::None
     }
+}
+
+// The hour of a field set: those of R, H and V carry one; those of D, U and E carry none, and theirs is 0.
+fn field_set_hour(kind: Kind, hour: u32) -> u32
+    ensures { λ r. ⌜ r ≡ fieldSetHour (kindOf kind) hour ⌝ }
+{
+    match kind {
+        Kind::Raw => hour,
+        Kind::Date => 0,
+        Kind::Hour => hour,
+        Kind::Uniform => 0,
+        Kind::Eu5 => 0,
+        Kind::Vic3 => hour,
+    }
+}
+
+// A date of these numbers. One that its own type in a date does not hold is of no date: it is refused, and never cut to size.
+fn make_wide(kind: Kind, year: i32, month: u32, day: u32, hour: u32) -> Made
+    ensures { λ r. ⌜ answer notOfKind r ≡ store (made (kindOf kind) notOfKind (record { year = year; month = month; day = day; hour = hour })) ⌝ }
+{
+    let halves = sign::halves32(year);
+    let up = halves.up;
+    let dn = halves.dn;
+    if 32767 < up {
+        return Made::None;
+    }
+    if 32768 < dn {
+        return Made::None;
+    }
+    if 255 < month {
+        return Made::None;
+    }
+    if 255 < day {
+        return Made::None;
+    }
+    if 255 < hour {
+        return Made::None;
+    }
+    let year = sign::int16(up, dn);
+    make(kind, year, month as u8, day as u8, hour as u8)
+}
+
+// A date of a field set, of any numbers.
+pub fn from_fields(kind: Kind, year: i32, month: u32, day: u32, hour: u32) -> Made
+    ensures { λ r. ⌜ answer notOfKind r ≡ store (fromFields (kindOf kind) (record { year = year; month = month; day = day; hour = hour })) ⌝ }
+{
+    make_wide(kind, year, month, day, field_set_hour(kind, hour))
 }
 
 // E's hour 23 becomes 22.
@@ -155,8 +216,13 @@ pub fn settle_day(kind: Kind, year: i16, month: u8, day: u8, hour: u8) -> Made
 {
     let settled = settled_hour(kind, hour);
     if hour_fits(kind, settled) {
-        let word = month as u16 * 4096 + day as u16 * 128 + settled as u16 * 4;
-        Made::Date(Packed { year, word })
+        let fields = ExpandedRawDate {
+            year,
+            month,
+            day,
+            hour: settled,
+        };
+        Made::Date(pack(NO_MARK, fields))
     } else {
         Made::None
     }
@@ -164,31 +230,20 @@ pub fn settle_day(kind: Kind, year: i16, month: u8, day: u8, hour: u8) -> Made
 
 // The fields of a date handed in. Every operation on a date goes through here first.
 pub fn unpack(kind: Kind, date: Packed) -> Opened
-    ensures { λ r. ⌜ opened r ≡ handedIn (kindOf kind) (date .year) (date .word) ⌝ }
+    ensures { λ r. ⌜ opened r ≡ handed (kindOf kind) (bitsOf date) ⌝ }
 {
-    let word = date.word;
-    if 0 < word % 4 {
-        return Opened::NotOfKind;
+    if word::mark_allowed(mark_of(date)) {
+        let fields = fields_of(date);
+        if fits_kind(kind, fields.month, fields.day, fields.hour) {
+            return Opened::Fields(fields);
+        }
     }
-    let month = (word / 4096) as u8;
-    let day = (word / 128 % 32) as u8;
-    let hour = (word / 4 % 32) as u8;
-    if fits_kind(kind, month, day, hour) {
-        let year = date.year;
-        Opened::Fields(ExpandedRawDate {
-            year,
-            month,
-            day,
-            hour,
-        })
-    } else {
-        Opened::NotOfKind
-    }
+    Opened::NotOfKind
 }
 
 // Whether a date handed in is one of the kind.
 pub fn is_of_kind(kind: Kind, date: Packed) -> bool
-    ensures { λ r. ⌜ r ≡ given (handedIn (kindOf kind) (date .year) (date .word)) ⌝ }
+    ensures { λ r. ⌜ r ≡ given (handed (kindOf kind) (bitsOf date)) ⌝ }
 {
     let opened = unpack(kind, date);
     match opened {
@@ -197,9 +252,9 @@ pub fn is_of_kind(kind: Kind, date: Packed) -> bool
     }
 }
 
-// Year, then packed word.
+// Year, then packed word: the word without its mark, which is no field.
 fn order_of(first: Packed, second: Packed) -> Ordered
-    ensures { λ r. ⌜ ordered r ≡ Gives (byZ (first .year) (second .year) (byN (first .word) (second .word) Same)) ⌝ }
+    ensures { λ r. ⌜ ordered r ≡ Gives (order (unpacked (bitsOf first)) (unpacked (bitsOf second))) ⌝ }
 {
     let a = first.year;
     let b = second.year;
@@ -209,8 +264,8 @@ fn order_of(first: Packed, second: Packed) -> Ordered
     if b < a {
         return Ordered::After;
     }
-    let v = first.word;
-    let w = second.word;
+    let v = first.word / 4;
+    let w = second.word / 4;
     if v < w {
         return Ordered::Before;
     }
@@ -222,7 +277,7 @@ fn order_of(first: Packed, second: Packed) -> Ordered
 
 // The order of two dates of one kind.
 pub fn compare(kind: Kind, first: Packed, second: Packed) -> Ordered
-    ensures { λ r. ⌜ ordered r ≡ (handedIn (kindOf kind) (first .year) (first .word) then λ f. handedIn (kindOf kind) (second .year) (second .word) then λ g. Gives (order f g)) ⌝ }
+    ensures { λ r. ⌜ ordered r ≡ ofDates (kindOf kind) (bitsOf first) (bitsOf second) (λ f g. Gives (order f g)) ⌝ }
 {
     if is_of_kind(kind, first) {
         if is_of_kind(kind, second) {

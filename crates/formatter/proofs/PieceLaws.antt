@@ -10,7 +10,7 @@ use lib.ListN.{length}
 use Rattle.sign.specs.Halves.{Halved}
 use Rattle.rules.specs.Words.{byte, bytes}
 use Rattle.rules.specs.Refusals.{Gives}
-use Rattle.rules.specs.Kinds.{Kind, Fields, handedIn}
+use Rattle.rules.specs.Kinds.{Kind, Fields, Stored, handed}
 use Rattle.rules.specs.Spelling.{digit, decimal, filled, plainYear, isoYear, exchangeYear, dottedPair, dottedHour, dotted, isoHourBefore, isoMonthDay, isoHour, isoDate, iso, exchange}
 use Rattle.rules.proofs.DecimalLaws.{one-digit, two-digits, filled-one, filled-two}
 use Rattle.rules.proofs.KindLaws.{fit}
@@ -111,8 +111,8 @@ pub record Small (f : Fields) : Type 0 where
   pub day : f .day < 100
   pub hour : f .hour < 99
 
-pub small : (k : Kind) (year : ℤ) (word : ℕ) (f : Fields) → handedIn k year word ≡ Gives f → Small f
-small k year word f e =
-    let p = handed-tells k year word f e .of-kind in
-    let t = fit k f p in let d = day-small k f p in let h = hour-small k f p in
+pub small : (k : Kind) (d : Stored) (f : Fields) → handed k d ≡ Gives f → Small f
+small k d f e =
+    let p = handed-tells k d f e .of-kind in
+    let t = fit k f p in let l = day-small k f p in let h = hour-small k f p in
     record { month = omega arith; day = omega arith; hour = omega arith }

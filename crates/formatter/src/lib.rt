@@ -2,10 +2,10 @@
 ghost use mathlib.Core.Path.{_≡_};
 ghost use Prim.Native.Nat.{_≤_, _<_};
 ghost use lib.ListN.{length};
-ghost use Rattle.rules.specs.Refusals.{Gives, _then_};
-ghost use Rattle.rules.specs.Kinds.{handedIn};
+ghost use Rattle.rules.specs.Refusals.{Gives};
+ghost use Rattle.rules.specs.Kinds.{ofDate};
 ghost use Rattle.rules.specs.Spelling.{hasIsoDate, dotted, iso, exchange, isoDateAlone, putAnswer, putBuffer};
-ghost use Rattle.expanded.specs.Views.{kindOf};
+ghost use Rattle.expanded.specs.Views.{kindOf, bitsOf};
 ghost use Rattle.formatter.specs.Pieces.{textOf};
 ghost use Rattle.formatter.specs.Views.{spelled, lengthOf};
 use expanded::ExpandedRawDate;
@@ -50,8 +50,8 @@ fn put_text(out: &mut [u8], year: Year, style: Style, month: u8, day: u8, hour: 
 
 // Year, month and day with dots between, and the hour if it is not 0.
 pub fn game_fmt(kind: Kind, date: Packed, out: &mut [u8]) -> Spelled
-    ensures { λ r. ⌜ spelled r ≡ putAnswer (handedIn (kindOf kind) (date .year) (date .word) then λ f. Gives (dotted (kindOf kind) f)) (now (out .entry)) ⌝ }
-    ensures { λ _. ⌜ now (out .exit) ≡ putBuffer (handedIn (kindOf kind) (date .year) (date .word) then λ f. Gives (dotted (kindOf kind) f)) (now (out .entry)) ⌝ }
+    ensures { λ r. ⌜ spelled r ≡ putAnswer (ofDate (kindOf kind) (bitsOf date) (λ f. Gives (dotted (kindOf kind) f))) (now (out .entry)) ⌝ }
+    ensures { λ _. ⌜ now (out .exit) ≡ putBuffer (ofDate (kindOf kind) (bitsOf date) (λ f. Gives (dotted (kindOf kind) f))) (now (out .entry)) ⌝ }
     ensures { λ r. ⌜ lengthOf r ≤ length (now (out .entry)) ⌝ }
 {
     let opened = expanded::unpack(kind, date);
@@ -67,8 +67,8 @@ pub fn game_fmt(kind: Kind, date: Packed, out: &mut [u8]) -> Spelled
 
 // The ISO text, its year in width 4 with the sign counted.
 pub fn iso_8601(kind: Kind, date: Packed, out: &mut [u8]) -> Spelled
-    ensures { λ r. ⌜ spelled r ≡ putAnswer (handedIn (kindOf kind) (date .year) (date .word) then λ f. Gives (iso (kindOf kind) f)) (now (out .entry)) ⌝ }
-    ensures { λ _. ⌜ now (out .exit) ≡ putBuffer (handedIn (kindOf kind) (date .year) (date .word) then λ f. Gives (iso (kindOf kind) f)) (now (out .entry)) ⌝ }
+    ensures { λ r. ⌜ spelled r ≡ putAnswer (ofDate (kindOf kind) (bitsOf date) (λ f. Gives (iso (kindOf kind) f))) (now (out .entry)) ⌝ }
+    ensures { λ _. ⌜ now (out .exit) ≡ putBuffer (ofDate (kindOf kind) (bitsOf date) (λ f. Gives (iso (kindOf kind) f))) (now (out .entry)) ⌝ }
     ensures { λ r. ⌜ lengthOf r ≤ length (now (out .entry)) ⌝ }
 {
     let opened = expanded::unpack(kind, date);
@@ -84,8 +84,8 @@ pub fn iso_8601(kind: Kind, date: Packed, out: &mut [u8]) -> Spelled
 
 // The exchange text, its year in at least four digits after a sign too.
 pub fn exchange(kind: Kind, date: Packed, out: &mut [u8]) -> Spelled
-    ensures { λ r. ⌜ spelled r ≡ putAnswer (handedIn (kindOf kind) (date .year) (date .word) then λ f. Gives (exchange (kindOf kind) f)) (now (out .entry)) ⌝ }
-    ensures { λ _. ⌜ now (out .exit) ≡ putBuffer (handedIn (kindOf kind) (date .year) (date .word) then λ f. Gives (exchange (kindOf kind) f)) (now (out .entry)) ⌝ }
+    ensures { λ r. ⌜ spelled r ≡ putAnswer (ofDate (kindOf kind) (bitsOf date) (λ f. Gives (exchange (kindOf kind) f))) (now (out .entry)) ⌝ }
+    ensures { λ _. ⌜ now (out .exit) ≡ putBuffer (ofDate (kindOf kind) (bitsOf date) (λ f. Gives (exchange (kindOf kind) f))) (now (out .entry)) ⌝ }
     ensures { λ r. ⌜ lengthOf r ≤ length (now (out .entry)) ⌝ }
 {
     let opened = expanded::unpack(kind, date);
@@ -115,8 +115,8 @@ fn has_iso_date(kind: Kind) -> bool
 
 // The ISO date alone, which E has; the other kinds are refused.
 pub fn date_fmt(kind: Kind, date: Packed, out: &mut [u8]) -> Spelled
-    ensures { λ r. ⌜ spelled r ≡ putAnswer (handedIn (kindOf kind) (date .year) (date .word) then λ f. isoDateAlone (kindOf kind) f) (now (out .entry)) ⌝ }
-    ensures { λ _. ⌜ now (out .exit) ≡ putBuffer (handedIn (kindOf kind) (date .year) (date .word) then λ f. isoDateAlone (kindOf kind) f) (now (out .entry)) ⌝ }
+    ensures { λ r. ⌜ spelled r ≡ putAnswer (ofDate (kindOf kind) (bitsOf date) (λ f. isoDateAlone (kindOf kind) f)) (now (out .entry)) ⌝ }
+    ensures { λ _. ⌜ now (out .exit) ≡ putBuffer (ofDate (kindOf kind) (bitsOf date) (λ f. isoDateAlone (kindOf kind) f)) (now (out .entry)) ⌝ }
     ensures { λ r. ⌜ lengthOf r ≤ length (now (out .entry)) ⌝ }
 {
     let opened = expanded::unpack(kind, date);

@@ -11,13 +11,12 @@ use lib.Seq.{take-at, take-all}
 use native.Mathlib.Nat.{le-refl}
 use Rattle.rules.specs.Words.{bytes}
 use Rattle.rules.specs.Refusals.{Answer, Gives, _then_, given}
-use Rattle.rules.specs.Kinds.{Kind, Fields, ofKind, unpacked, handedIn}
+use Rattle.rules.specs.Kinds.{Kind, Fields, Stored, ofKind, unpacked, handed, ofDate}
 use Rattle.rules.specs.Spelling.{digit, putAnswer, putBuffer}
 use Rattle.rules.specs.Listing.{refusedText, lineEnd}
 use Rattle.rules.proofs.DecimalLaws.{one-digit}
-use Rattle.rules.proofs.PackLaws.{handed-tells}
+use Rattle.rules.proofs.PackLaws.{handed-by, handed-tells}
 use Rattle.rules.proofs.ReadBack.{backOne}
-use Rattle.expanded.proofs.Laws.{handed-by}
 use Rattle.formatter.specs.declared.Spelled.{Spelled}
 use Rattle.formatter.specs.declared.Spelled.the-variants as W
 use Rattle.formatter.specs.Views.{spelled, lengthOf}
@@ -46,17 +45,17 @@ pub record Fits (t l₀ : List ℕ) (r : Spelled) (l : List ℕ) : Type 0 where
   pub answered : (lengthOf r ≡ length t) × (lengthOf r ≤ 15)
   pub holds : l ≡ t ++ drop (length t) l₀
 
-pub fits : (k : Kind) (y : ℤ) (w : ℕ) (texts : Fields → List ℕ) (l₀ l : List ℕ) (r : Spelled) → given (handedIn k y w) ≡ true
-    → 15 ≤ length l₀ → (ofKind k (unpacked y w) ≡ true → length (texts (unpacked y w)) ≤ 15)
-    → Done (handedIn k y w then λ f. Gives (texts f)) l₀ r l → Fits (texts (unpacked y w)) l₀ r l
+pub fits : (k : Kind) (d : Stored) (texts : Fields → List ℕ) (l₀ l : List ℕ) (r : Spelled) → given (handed k d) ≡ true
+    → 15 ≤ length l₀ → (ofKind k (unpacked d) ≡ true → length (texts (unpacked d)) ≤ 15)
+    → Done (ofDate k d (λ f. Gives (texts f))) l₀ r l → Fits (texts (unpacked d)) l₀ r l
 unfolding putAnswer putBuffer
-fits k y w texts l₀ l r g room short d =
-    let e = handed-by k y w g in
-    let s = short (handed-tells k y w (unpacked y w) e .of-kind) in
-    let n = length (texts (unpacked y w)) in
+fits k d texts l₀ l r g room short done =
+    let e = handed-by k d g in
+    let s = short (handed-tells k d (unpacked d) e .of-kind) in
+    let n = length (texts (unpacked d)) in
     let test = le-leb n (length l₀) (omega arith) in
-    let told = length-told spelled lengthOf spelled-length r n (rw (e, test) at (d .0)) in
-    record { answered = (told, omega arith); holds = rw (e, test) at (d .1 .0) }
+    let told = length-told spelled lengthOf spelled-length r n (rw (e, test) at (done .0)) in
+    record { answered = (told, omega arith); holds = rw (e, test) at (done .1 .0) }
 
 -- ---- a text that was built in a room of its own, and copied
 

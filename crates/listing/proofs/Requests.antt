@@ -8,13 +8,12 @@ use lib.IntN.{ℤ}
 use lib.ListN.{drop}
 use Rattle.rules.specs.Words.{byte}
 use Rattle.rules.specs.Refusals.{Answer, Gives, Refused, given, unreadableLine}
-use Rattle.rules.specs.Kinds.{Kind, Fields, Stored, ofKind, packed, unpacked, handedIn, stored, store}
+use Rattle.rules.specs.Kinds.{Kind, Fields, Stored, ofKind, unpacked, handed, stored, store}
 use Rattle.rules.specs.Listing.{Way, letter, readLine, dateBy, refusedText, dateText, requestText, lineEnd, lineOutput}
-use Rattle.rules.proofs.PackLaws.{handed-back}
+use Rattle.rules.proofs.PackLaws.{handed-back, handed-by}
 use Rattle.rules.proofs.ReadBack.{backOne, backBy}
 use Rattle.rules.proofs.AnswerLaws.{Told, gives, refuses, Dated}
 use Rattle.rules.proofs.RefusalLaws.{RefusedBy, date-told, has-way}
-use Rattle.expanded.proofs.Laws.{handed-by}
 use Rattle.listing.specs.Views.{dateLine}
 
 -- a line that is not read
@@ -32,25 +31,25 @@ module _ (s : List ℕ) (k : Kind) (w : Way) (line : readLine s ≡ Gives (recor
   told = date-told w k (drop 4 s) (has-way s _ line)
 
   -- a date handed in by its own bits
-  pub record Printed (year : ℤ) (word : ℕ) : Type 0 where
-    pub of-kind : given (handedIn k year word) ≡ true
-    pub is : lineOutput s ≡ dateLine k (unpacked year word)
+  pub record Printed (d : Stored) : Type 0 where
+    pub of-kind : given (handed k d) ≡ true
+    pub is : lineOutput s ≡ dateLine k (unpacked d)
 
-  by-fields : (f : Fields) → dateBy w k (drop 4 s) ≡ Gives f → ofKind k f ≡ true → Printed (f .year) (packed f)
+  by-fields : (f : Fields) → dateBy w k (drop 4 s) ≡ Gives f → ofKind k f ≡ true → Printed (stored f)
   unfolding dateText
   by-fields f e p =
-      let h : handedIn k (f .year) (packed f) ≡ Gives f = handed-back k f p in
-      let g : given (handedIn k (f .year) (packed f)) ≡ true = rw h in
-      let u : unpacked (f .year) (packed f) ≡ f = ap (backOne (λ (x : Fields). x) f) (sym (handed-by k (f .year) (packed f) g) ∙ h) in
+      let h : handed k (stored f) ≡ Gives f = handed-back k f p in
+      let g : given (handed k (stored f)) ≡ true = rw h in
+      let u : unpacked (stored f) ≡ f = ap (backOne (λ (x : Fields). x) f) (sym (handed-by k (stored f) g) ∙ h) in
       record { of-kind = g; is = rw u (answered (Gives f) e) }
 
-  by-told : (a : Answer Fields) (b : Stored) → Told (RefusedBy w) (Dated k) a → dateBy w k (drop 4 s) ≡ a → Gives b ≡ store a → Printed (b .year) (b .word)
+  by-told : (a : Answer Fields) (b : Stored) → Told (RefusedBy w) (Dated k) a → dateBy w k (drop 4 s) ≡ a → Gives b ≡ store a → Printed b
   by-told (Gives f) b (gives p) e q =
       let same : stored f ≡ b = ap (backOne (λ (x : Stored). x) b) (sym q) in
-      subst (λ (x : Stored). Printed (x .year) (x .word)) same (by-fields f e p)
+      subst Printed same (by-fields f e p)
   by-told (Refused n) b (refuses h) e q = let z : _≡_ {A = ℕ} 0 1 = ap (backOne (λ (x : Stored). 0) 1) q in absurd (omega arith)
 
-  pub date-output : (b : Stored) → Gives b ≡ store (dateBy w k (drop 4 s)) → Printed (b .year) (b .word)
+  pub date-output : (b : Stored) → Gives b ≡ store (dateBy w k (drop 4 s)) → Printed b
   date-output b q = by-told (dateBy w k (drop 4 s)) b told refl q
 
   by-refusal : (a : Answer Fields) (n : ℕ) → Told (RefusedBy w) (Dated k) a → dateBy w k (drop 4 s) ≡ a → Refused n ≡ store a → lineOutput s ≡ refusedText (letter k) n ++ lineEnd

@@ -5,10 +5,10 @@ ghost use mathlib.Core.List.{_++_};
 ghost use Prim.Native.Nat.{_≤_, _<_};
 ghost use lib.ListN.{length};
 ghost use Rattle.rules.specs.Refusals.{given};
-ghost use Rattle.rules.specs.Kinds.{unpacked, handedIn};
+ghost use Rattle.rules.specs.Kinds.{unpacked, handed};
 ghost use Rattle.rules.specs.Spelling.{dotted, iso};
 ghost use Rattle.rules.specs.Listing.{refusedText, lineEnd};
-ghost use Rattle.expanded.specs.Views.{kindOf};
+ghost use Rattle.expanded.specs.Views.{kindOf, bitsOf};
 ghost use Rattle.digits.specs.Places.{placed};
 ghost use Rattle.listing.specs.Views.{dateLine};
 use expanded::Kind;
@@ -30,9 +30,9 @@ pub(crate) fn put_refused(out: &mut [u8], front: u8, n: u8) -> usize
 
 // The dotted text of a date of the kind.
 fn put_dotted(out: &mut [u8], kind: Kind, date: Packed) -> usize
-    requires { ⌜ (15 ≤ length (now out)) × (given (handedIn (kindOf kind) (date .year) (date .word)) ≡ true) ⌝ }
-    ensures { λ r. ⌜ (r ≡ length (dotted (kindOf kind) (unpacked (date .year) (date .word)))) × (r ≤ 15) ⌝ }
-    ensures { λ _. ⌜ now (out .exit) ≡ placed (dotted (kindOf kind) (unpacked (date .year) (date .word))) (now (out .entry)) ⌝ }
+    requires { ⌜ (15 ≤ length (now out)) × (given (handed (kindOf kind) (bitsOf date)) ≡ true) ⌝ }
+    ensures { λ r. ⌜ (r ≡ length (dotted (kindOf kind) (unpacked (bitsOf date)))) × (r ≤ 15) ⌝ }
+    ensures { λ _. ⌜ now (out .exit) ≡ placed (dotted (kindOf kind) (unpacked (bitsOf date))) (now (out .entry)) ⌝ }
 {
     let text = formatter::game_fmt(kind, date, out);
     match text {
@@ -44,9 +44,9 @@ fn put_dotted(out: &mut [u8], kind: Kind, date: Packed) -> usize
 
 // The ISO text of a date of the kind.
 fn put_iso(out: &mut [u8], kind: Kind, date: Packed) -> usize
-    requires { ⌜ (15 ≤ length (now out)) × (given (handedIn (kindOf kind) (date .year) (date .word)) ≡ true) ⌝ }
-    ensures { λ r. ⌜ (r ≡ length (iso (kindOf kind) (unpacked (date .year) (date .word)))) × (r ≤ 15) ⌝ }
-    ensures { λ _. ⌜ now (out .exit) ≡ placed (iso (kindOf kind) (unpacked (date .year) (date .word))) (now (out .entry)) ⌝ }
+    requires { ⌜ (15 ≤ length (now out)) × (given (handed (kindOf kind) (bitsOf date)) ≡ true) ⌝ }
+    ensures { λ r. ⌜ (r ≡ length (iso (kindOf kind) (unpacked (bitsOf date)))) × (r ≤ 15) ⌝ }
+    ensures { λ _. ⌜ now (out .exit) ≡ placed (iso (kindOf kind) (unpacked (bitsOf date))) (now (out .entry)) ⌝ }
 {
     let text = formatter::iso_8601(kind, date, out);
     match text {
@@ -58,9 +58,9 @@ fn put_iso(out: &mut [u8], kind: Kind, date: Packed) -> usize
 
 // Letter, dotted text and ISO text of a date of the kind.
 pub(crate) fn put_date(out: &mut [u8], kind: Kind, date: Packed) -> usize
-    requires { ⌜ (40 ≤ length (now out)) × (given (handedIn (kindOf kind) (date .year) (date .word)) ≡ true) ⌝ }
-    ensures { λ r. ⌜ (r ≡ length (dateLine (kindOf kind) (unpacked (date .year) (date .word)))) × (r ≤ 40) ⌝ }
-    ensures { λ _. ⌜ now (out .exit) ≡ placed (dateLine (kindOf kind) (unpacked (date .year) (date .word))) (now (out .entry)) ⌝ }
+    requires { ⌜ (40 ≤ length (now out)) × (given (handed (kindOf kind) (bitsOf date)) ≡ true) ⌝ }
+    ensures { λ r. ⌜ (r ≡ length (dateLine (kindOf kind) (unpacked (bitsOf date)))) × (r ≤ 40) ⌝ }
+    ensures { λ _. ⌜ now (out .exit) ≡ placed (dateLine (kindOf kind) (unpacked (bitsOf date))) (now (out .entry)) ⌝ }
 {
     out[0] = codes::letter(kind);
     out[1] = b' ';

@@ -12,14 +12,13 @@ use Rattle.sign.specs.Halves.{up, dn, Halved}
 use Rattle.sign.proofs.Laws.{same, ints, one-side}
 use Rattle.rules.specs.Refusals.{Answer, Gives, Refused, _then_, demand, given, notNumber, notOfKind}
 use Rattle.rules.specs.Calendar.{lengths, monthLength, walk, monthDay, dayOfYear}
-use Rattle.rules.specs.Kinds.{Kind, kR, kD, kH, kU, kE, kV, Fields, daysIn, handedIn, store}
+use Rattle.rules.specs.Kinds.{Kind, kR, kD, kH, kU, kE, kV, Fields, Stored, daysIn, store, handed, ofDate}
 use Rattle.rules.specs.Numbers.{onDay, hourOf, dayOf, yearOf, hasFields, numberFields, readsNumbers, decoded, readNumber, guesses, guessed, guessNumber, straightAt, straight, writesNumbers, writtenHour, writeNumber}
 use Rattle.rules.proofs.ReadBack.{backBy}
 use Rattle.rules.proofs.CalendarLaws.{IsDay, is-day, length-small}
 use Rattle.rules.proofs.KindLaws.{Fit, fit, month-fits}
-use Rattle.rules.proofs.PackLaws.{Handed, handed-tells}
+use Rattle.rules.proofs.PackLaws.{handed-tells, lacking}
 use Rattle.rules.proofs.NumberBack.{writer}
-use Rattle.expanded.proofs.Laws.{handed-by}
 use Rattle.rules.proofs.NumberLaws.{Stands, fields-at, no-fields}
 use Rattle.number.specs.declared.Read.{Read}
 use Rattle.number.specs.declared.Guess.{Guess}
@@ -111,31 +110,27 @@ module _ (k : Kind) (s : ℤ) where
 
 -- ---- the way back, of a date handed in
 
-module _ (k : Kind) (y : ℤ) (w : ℕ) where
+module _ (k : Kind) (d : Stored) where
   abbrev pub wrote : Answer ℤ
-  wrote = handedIn k y w then λ f. writeNumber k f
+  wrote = ofDate k d (λ f. writeNumber k f)
 
   pub write-lacks : writesNumbers k ≡ false → wrote ≡ Refused notOfKind
   unfolding writeNumber
-  write-lacks a = rw a (by (given (handedIn k y w)) refl)
-    where
-      by : (t : Bool) → given (handedIn k y w) ≡ t → _≡_ {A = Answer ℤ} (handedIn k y w then λ f. Refused notOfKind) (Refused notOfKind)
-      by true e = rw (handed-by k y w e)
-      by false e = rw (handed-by k y w e)
+  write-lacks a = rw a (lacking k d)
 
-  pub write-refused : handedIn k y w ≡ Refused notOfKind → wrote ≡ Refused notOfKind
+  pub write-refused : handed k d ≡ Refused notOfKind → wrote ≡ Refused notOfKind
   write-refused e = rw e
 
-  pub write-some : (f : Fields) → writesNumbers k ≡ true → handedIn k y w ≡ Gives f →
+  pub write-some : (f : Fields) → writesNumbers k ≡ true → handed k d ≡ Gives f →
       wrote ≡ Gives (straightAt (f .year) (dayOfYear (f .month) (f .day)) (writtenHour k (f .hour)))
   unfolding writeNumber straight
   write-some f a e = rw (e, a)
 
   -- its month and its day are the calendar's
-  pub calendar-day : (f : Fields) → writesNumbers k ≡ true → handedIn k y w ≡ Gives f →
+  pub calendar-day : (f : Fields) → writesNumbers k ≡ true → handed k d ≡ Gives f →
       (1 ≤ f .month) × (f .month ≤ 12) × (1 ≤ f .day) × (f .day ≤ monthLength (f .month))
   calendar-day f a e =
-      let o = handed-tells k y w f e .of-kind in
+      let o = handed-tells k d f e .of-kind in
       let t = fit k f o in
       (t .month-low, t .month-high, t .day-low, month-fits k (writer k a .1) f o)
 

@@ -2,10 +2,10 @@
 ghost use mathlib.Core.Path.{_≡_};
 ghost use mathlib.Core.Bool.{true};
 ghost use Prim.Native.Nat.{ℕ, _≤_, _<_};
-ghost use Rattle.rules.specs.Refusals.{_then_, notNumber};
-ghost use Rattle.rules.specs.Kinds.{daysIn, handedIn, store};
+ghost use Rattle.rules.specs.Refusals.{notNumber};
+ghost use Rattle.rules.specs.Kinds.{daysIn, store, ofDate};
 ghost use Rattle.rules.specs.Numbers.{numberFields, readsNumbers, decodedHour, decoded, readNumber, guesses, guessNumber, writesNumbers, writtenHour, writeNumber};
-ghost use Rattle.expanded.specs.Views.{kindOf, fieldsOf, answer};
+ghost use Rattle.expanded.specs.Views.{kindOf, fieldsOf, answer, bitsOf};
 ghost use Rattle.number.specs.Views.{numbered, hourIn, readAs, guessedAs, writtenAs};
 use expanded::ExpandedRawDate;
 use expanded::Kind;
@@ -247,7 +247,7 @@ fn written_hour(kind: Kind, hour: u8) -> u8
 
 // The number of a date: what D and H write.
 pub fn to_binary(kind: Kind, date: Packed) -> Written
-    ensures { λ r. ⌜ writtenAs r ≡ (handedIn (kindOf kind) (date .year) (date .word) then λ f. writeNumber (kindOf kind) f) ⌝ }
+    ensures { λ r. ⌜ writtenAs r ≡ ofDate (kindOf kind) (bitsOf date) (λ f. writeNumber (kindOf kind) f) ⌝ }
 {
     if writes_numbers(kind) {
         let Opened::Fields(f) = expanded::unpack(kind, date) else {

@@ -9,10 +9,12 @@ use lib.Dec.{leb, ltb, eqb}
 use lib.IntN.{ℤ}
 use lib.ListN.{length, getD, take, drop}
 use Rattle.rules.specs.Words.{within, bigEndian}
-use Rattle.rules.specs.Refusals.{Answer, Gives, Refused, RefusedAt, _then_, demand, badRecord}
-use Rattle.rules.specs.Kinds.{Kind, Fields, ofKind, made, unpacked, handedIn}
+use Rattle.rules.specs.Refusals.{Answer, Gives, Refused, RefusedAt, _then_, demand, notOfKind, badRecord}
+use Rattle.rules.specs.Kinds.{Kind, Fields, Stored, ofKind, made, markOf, markAllowed, unpacked, handed, ofDate}
 use Rattle.rules.specs.Spelling.{dotted, iso, hasIsoDate, isoDateAlone, exchange, putAnswer}
-use Rattle.rules.specs.Book.{lengthSize, headSize, kindOfCode, lengthSaid, versionOf, framed, firstBad, allPass, records, check, pick, recordAt, appendAnswer, yearOfTwos, entryFrom, entryOf, version1, entryAt, entryFor, soundBy}
+use Rattle.rules.specs.Book.{lengthSize, headSize, kindCode, kindOfCode, lengthSaid, versionOf, framed, firstBad, allPass, records, check, pick, recordAt, appendAnswer, yearOfTwos, entryFrom, entryOf, version1, entryAt, entryFor, soundBy}
+use Rattle.rules.proofs.AnswerLaws.{Told, gives, refuses}
+use Rattle.rules.proofs.CodeLaws.{told-kind}
 use Rattle.rules.proofs.KindLaws.{high}
 use Rattle.rules.proofs.LengthLaws.{text-lengths}
 use Rattle.rules.proofs.PieceLaws.{piece-count}
@@ -44,10 +46,6 @@ small-demand : {A : Type 0} (P : A → Type 0) (t : Bool) (n : ℕ) (x : Answer 
 small-demand P true n x p = p refl
 small-demand P false n x p = tt
 
-small-cond : {A : Type 0} (P : A → Type 0) (t : Bool) (x y : Answer A) → Small P x → Small P y → Small P (cond t x y)
-small-cond P true x y p q = p
-small-cond P false x y p q = q
-
 small-number : (x : Answer ℕ) → Small Few x → numberOf x ≤ 4096
 small-number (Gives n) p = p
 small-number (Refused n) p = zero-le
@@ -59,45 +57,46 @@ small-place (Refused n) p = zero-le
 small-place (RefusedAt n place) p = p
 
 -- a date handed in is of its kind, and its refusal has no place; nor has that of a code
-handed-small : (k : Kind) (year : ℤ) (word : ℕ) → Small (λ f. ofKind k f ≡ true) (handedIn k year word)
-unfolding handedIn made
-handed-small k year word =
-    small-demand (λ f. ofKind k f ≡ true) (eqb (word % 4) 0) _ _
-    (λ low. small-demand (λ f. ofKind k f ≡ true) (ofKind k (unpacked year word)) _ _ (λ p. p))
+handed-small : (k : Kind) (d : Stored) → Small (λ f. ofKind k f ≡ true) (handed k d)
+unfolding handed made
+handed-small k d =
+    small-demand (λ f. ofKind k f ≡ true) (markAllowed (markOf (d .word))) _ _
+    (λ low. small-demand (λ f. ofKind k f ≡ true) (ofKind k (unpacked d)) _ _ (λ p. p))
+
+small-told : {A : Type 0} {R : ℕ → Type 0} {P : A → Type 0} {x : Answer A} → Told R P x → Small Any x
+small-told (gives p) = tt
+small-told (refuses r) = tt
 
 code-small : (code : ℕ) → Small Any (kindOfCode code)
 unfolding kindOfCode
-code-small code =
-    let next = small-cond (Any {A = Kind}) in
-    next (eqb code 1) _ _ tt (next (eqb code 2) _ _ tt (next (eqb code 3) _ _ tt
-    (next (eqb code 4) _ _ tt (next (eqb code 5) _ _ tt (next (eqb code 6) _ _ tt tt)))))
+code-small code = small-told (told-kind kindCode notOfKind code {R = λ n. Unit {0}} tt)
 
 -- ---- the length of a text
 
 abbrev FewBytes : List ℕ → Type 0
 FewBytes text = length text ≤ 4096
 
-module _ (k : Kind) (year : ℤ) (word : ℕ) (buffer : List ℕ) where
+module _ (k : Kind) (d : Stored) (buffer : List ℕ) where
   text-small : (spell : Fields → Answer (List ℕ)) →
       ((f : Fields) → ofKind k f ≡ true → Small FewBytes (spell f)) →
-      numberOf (putAnswer (handedIn k year word then spell) buffer) ≤ 4096
+      numberOf (putAnswer (handed k d then spell) buffer) ≤ 4096
   unfolding putAnswer
   text-small spell each =
-      small-number (putAnswer (handedIn k year word then spell) buffer)
-      (small-then FewBytes Few (handedIn k year word then spell) _
-      (small-then (λ f. ofKind k f ≡ true) FewBytes (handedIn k year word) spell (handed-small k year word) each)
+      small-number (putAnswer (handed k d then spell) buffer)
+      (small-then FewBytes Few (handed k d then spell) _
+      (small-then (λ f. ofKind k f ≡ true) FewBytes (handed k d) spell (handed-small k d) each)
       (λ text p. small-demand Few (leb (length text) (length buffer)) _ _ (λ fits. p)))
 
-  pub dotted-small : numberOf (putAnswer (handedIn k year word then λ f. Gives (dotted k f)) buffer) ≤ 4096
+  pub dotted-small : numberOf (putAnswer (ofDate k d (λ f. Gives (dotted k f))) buffer) ≤ 4096
   dotted-small = text-small (λ f. Gives (dotted k f)) (λ f p. let h = text-lengths k f p .dotted-length in omega arith)
 
-  pub iso-small : numberOf (putAnswer (handedIn k year word then λ f. Gives (iso k f)) buffer) ≤ 4096
+  pub iso-small : numberOf (putAnswer (ofDate k d (λ f. Gives (iso k f))) buffer) ≤ 4096
   iso-small = text-small (λ f. Gives (iso k f)) (λ f p. let h = text-lengths k f p .iso-length in omega arith)
 
-  pub exchange-small : numberOf (putAnswer (handedIn k year word then λ f. Gives (exchange k f)) buffer) ≤ 4096
+  pub exchange-small : numberOf (putAnswer (ofDate k d (λ f. Gives (exchange k f))) buffer) ≤ 4096
   exchange-small = text-small (λ f. Gives (exchange k f)) (λ f p. let h = text-lengths k f p .exchange-length in omega arith)
 
-  pub iso-date-small : numberOf (putAnswer (handedIn k year word then λ f. isoDateAlone k f) buffer) ≤ 4096
+  pub iso-date-small : numberOf (putAnswer (ofDate k d (λ f. isoDateAlone k f)) buffer) ≤ 4096
   unfolding isoDateAlone
   iso-date-small =
       text-small (λ f. isoDateAlone k f)
@@ -141,13 +140,13 @@ module _ (s : List ℕ) where
   pub check-small : numberOf (check version1 s) ≤ 4096
   check-small = small-number (check version1 s) few-checked
 
-  pub append-small : (code : ℕ) (year : ℤ) (word : ℕ) → numberOf (appendAnswer version1 (entryFor code year word) s) ≤ 4096
+  pub append-small : (code : ℕ) (d : Stored) → numberOf (appendAnswer version1 (entryFor code d) s) ≤ 4096
   unfolding appendAnswer entryFor
-  append-small code year word =
-      small-number (appendAnswer version1 (entryFor code year word) s)
-      (small-then Any Few (entryFor code year word) _
+  append-small code d =
+      small-number (appendAnswer version1 (entryFor code d) s)
+      (small-then Any Few (entryFor code d) _
       (small-then Any Any (kindOfCode code) _ (code-small code)
-      (λ k any. small-then (λ f. ofKind k f ≡ true) Any (handedIn k year word) _ (handed-small k year word) (λ f p. tt)))
+      (λ k any. small-then (λ f. ofKind k f ≡ true) Any (handed k d) _ (handed-small k d) (λ f p. tt)))
       (λ r any. small-then Few Few (check version1 s) _ few-checked
       (λ n few. small-demand Few (ltb n 4096 && leb (lengthSaid s + lengthSize + 5) (length s)) _ _ (λ room. few))))
 
@@ -160,10 +159,9 @@ module _ (s : List ℕ) where
   entry-small : (r : List ℕ) → Small Any (entryOf r)
   unfolding entryFrom
   entry-small r =
-      let year = yearOfTwos (bigEndian (take 2 (drop 1 r))) in
-      let word = bigEndian (take 2 (drop 3 r)) in
+      let d : Stored = record { year = yearOfTwos (bigEndian (take 2 (drop 1 r))); word = bigEndian (take 2 (drop 3 r)) } in
       small-then Any Any (kindOfCode (getD r 0 0)) _ (code-small (getD r 0 0))
-      (λ k any. small-then (λ f. ofKind k f ≡ true) Any (handedIn k year word) _ (handed-small k year word) (λ f p. tt))
+      (λ k any. small-then (λ f. ofKind k f ≡ true) Any (handed k d) _ (handed-small k d) (λ f p. tt))
 
   pub record-small : (place : ℕ) → placeOf (inBits (entryAt version1 s place)) ≤ 4096
   unfolding entryAt recordAt

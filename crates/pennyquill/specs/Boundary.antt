@@ -3,7 +3,7 @@ use Prim.Native.Nat.{ℕ, _+_, _*_, _/_, _%_}
 use lib.IntN.{ℤ, pos}
 use Rattle.rules.specs.Words.{minus}
 use Rattle.rules.specs.Refusals.{Answer, Gives, Refused, RefusedAt, _then_, notOfKind}
-use Rattle.rules.specs.Kinds.{Kind, Fields, Stored, store, handedIn}
+use Rattle.rules.specs.Kinds.{Kind, Fields, Stored, store, ofDate, ofDates}
 use Rattle.rules.specs.Days.{Order, Before, Same, After}
 use Rattle.rules.specs.Book.{kindCode, kindOfCode, twosComplement, yearOfTwos}
 use Rattle.book.specs.Views.{Bits}
@@ -13,19 +13,12 @@ use Rattle.pennyquill.specs.declared.PqRecord.{PqRecord}
 
 -- ---- into the library
 
--- "(uint32_t)(uint16_t)year << 16 | packed word": a date as one number, and its year and its word back
+-- "(uint32_t)(uint16_t)year << 16 | packed word": a date as one number, and back
 abbrev pub dateNumber : Stored → ℕ
 dateNumber d = twosComplement (d .year) * 65536 + d .word
 
-abbrev pub yearIn : ℕ → ℤ
-yearIn date = yearOfTwos (date / 65536)
-
-abbrev pub wordIn : ℕ → ℕ
-wordIn date = date % 65536
-
--- a date handed in as one number, or 4
-abbrev pub dateIn : Kind → ℕ → Answer Fields
-dateIn k date = handedIn k (yearIn date) (wordIn date)
+abbrev pub dateIn : ℕ → Stored
+dateIn date = record { year = yearOfTwos (date / 65536); word = date % 65536 }
 
 -- what is answered of a kind by its code, or 4
 abbrev pub ofKindGiven : {A : Type 0} → ℕ → (Kind → Answer A) → Answer A
@@ -33,11 +26,11 @@ ofKindGiven kind next = kindOfCode kind then next
 
 -- what is answered of a date of such a kind, or 4
 abbrev pub ofDateGiven : {A : Type 0} → ℕ → ℕ → (Kind → Fields → Answer A) → Answer A
-ofDateGiven kind date next = ofKindGiven kind (λ k. dateIn k date then next k)
+ofDateGiven kind date next = ofKindGiven kind (λ k. ofDate k (dateIn date) (next k))
 
 -- and of two dates of it
 abbrev pub ofDatesGiven : {A : Type 0} → ℕ → ℕ → ℕ → (Kind → Fields → Fields → Answer A) → Answer A
-ofDatesGiven kind first second next = ofDateGiven kind first (λ k f. dateIn k second then next k f)
+ofDatesGiven kind first second next = ofKindGiven kind (λ k. ofDates k (dateIn first) (dateIn second) (next k))
 
 -- ---- out of it
 

@@ -5,7 +5,7 @@ ghost use Rattle.rules.specs.Book.{check, appendAnswer, appendBuffer, newAnswer
 ghost use Rattle.rules.specs.Refusals.{RefusedAt, badRecord};
 ghost use Rattle.frame.specs.Views.{startedAs};
 ghost use Rattle.book.specs.Views.{inBits, checkedAs, foundAs, appendedAs};
-ghost use Rattle.pennyquill.specs.Boundary.{yearIn, wordIn, crossed, recordCrossed, numberOf, placeOf};
+ghost use Rattle.pennyquill.specs.Boundary.{dateIn, crossed, recordCrossed, numberOf, placeOf};
 use crate::PqAnswer;
 use crate::PqRecord;
 use crate::crossing;
@@ -110,8 +110,8 @@ pub extern "C" fn pq_book_check(book: &[u8]) -> PqAnswer
 
 #[no_mangle]
 pub extern "C" fn pq_book_append(book: &mut [u8], kind: u32, date: u32) -> PqAnswer
-    ensures { λ r. ⌜ r ≡ crossed (appendAnswer version1 (entryFor kind (yearIn date) (wordIn date)) (now (book .entry))) ⌝ }
-    ensures { λ _. ⌜ now (book .exit) ≡ appendBuffer version1 (entryFor kind (yearIn date) (wordIn date)) (now (book .entry)) ⌝ }
+    ensures { λ r. ⌜ r ≡ crossed (appendAnswer version1 (entryFor kind (dateIn date)) (now (book .entry))) ⌝ }
+    ensures { λ _. ⌜ now (book .exit) ≡ appendBuffer version1 (entryFor kind (dateIn date)) (now (book .entry)) ⌝ }
 {
     let Coded::Kind(kind) = codes::kind_of_code(kind) else {
         return crossing::not_of_kind();

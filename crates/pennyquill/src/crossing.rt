@@ -2,14 +2,14 @@
 ghost use mathlib.Core.Path.{_≡_};
 ghost use Rattle.rules.specs.Refusals.{Gives, Refused, notOfKind};
 ghost use Rattle.expanded.specs.Views.{bitsOf};
-ghost use Rattle.pennyquill.specs.Boundary.{dateNumber, yearIn, wordIn, crossed, numberCrossed};
+ghost use Rattle.pennyquill.specs.Boundary.{dateNumber, dateIn, crossed, numberCrossed};
 use crate::PqAnswer;
 use crate::PqNumber;
 use expanded::Packed;
 
 // The bits of a date, from its number; any number has some.
 pub fn date_in(date: u32) -> Packed
-    ensures { λ r. ⌜ (r .year ≡ yearIn date) × (r .word ≡ wordIn date) ⌝ }
+    ensures { λ r. ⌜ bitsOf r ≡ dateIn date ⌝ }
 {
     let year = codes::year_of_twos((date / 65536) as u16);
     let word = (date % 65536) as u16;

@@ -1,10 +1,10 @@
 // Dates read: from a text, from a number by the full decoder or by the guess, and from fields.
 ghost use mathlib.Core.Path.{_≡_};
 ghost use Rattle.rules.specs.Refusals.{notOfKind};
-ghost use Rattle.rules.specs.Kinds.{fieldSetHour, made, fromFields};
+ghost use Rattle.rules.specs.Kinds.{fromFields};
 ghost use Rattle.rules.specs.Numbers.{readNumber, guessNumber};
 ghost use Rattle.rules.specs.Text.{readText};
-ghost use Rattle.expanded.specs.Views.{kindOf, answer};
+ghost use Rattle.expanded.specs.Views.{answer};
 ghost use Rattle.number.specs.Views.{readAs, guessedAs};
 ghost use Rattle.by_kind.specs.Views.{parsed};
 ghost use Rattle.pennyquill.specs.Boundary.{ofKindGiven, bitsCrossed, dateCrossed};
@@ -12,7 +12,6 @@ use crate::PqAnswer;
 use crate::crossing;
 use by_kind::Parsed;
 use codes::Coded;
-use expanded::Kind;
 use expanded::Made;
 use number::Guess;
 use number::Read;
@@ -87,20 +86,6 @@ pub extern "C" fn pq_guess_number(kind: u32, number: i32) -> PqAnswer
 
 // ---- from fields
 
-// "Field sets of R, H and V carry an hour; those of D, U and E carry none, and their hour is 0"
-fn field_set_hour(kind: Kind, hour: u32) -> u32
-    ensures { λ r. ⌜ r ≡ fieldSetHour (kindOf kind) hour ⌝ }
-{
-    match kind {
-        Kind::Raw => hour,
-        Kind::Date => 0,
-        Kind::Hour => hour,
-        Kind::Uniform => 0,
-        Kind::Eu5 => 0,
-        Kind::Vic3 => hour,
-    }
-}
-
 fn made_crossed(made: Made) -> PqAnswer
     ensures { λ r. ⌜ r ≡ bitsCrossed (answer notOfKind made) ⌝ }
 {
@@ -110,32 +95,6 @@ fn made_crossed(made: Made) -> PqAnswer
     }
 }
 
-// A date of these fields. One that its own type in a date does not hold is of no date: it is refused, and never cut to size.
-fn date_of_fields(kind: Kind, year: i32, month: u32, day: u32, hour: u32) -> PqAnswer
-    ensures { λ r. ⌜ r ≡ dateCrossed (made (kindOf kind) notOfKind (record { year = year; month = month; day = day; hour = hour })) ⌝ }
-{
-    let halves = sign::halves32(year);
-    let up = halves.up;
-    let dn = halves.dn;
-    if 32767 < up {
-        return crossing::not_of_kind();
-    }
-    if 32768 < dn {
-        return crossing::not_of_kind();
-    }
-    if 255 < month {
-        return crossing::not_of_kind();
-    }
-    if 255 < day {
-        return crossing::not_of_kind();
-    }
-    if 255 < hour {
-        return crossing::not_of_kind();
-    }
-    let year = sign::int16(up, dn);
-    made_crossed(expanded::make(kind, year, month as u8, day as u8, hour as u8))
-}
-
 #[no_mangle]
 pub extern "C" fn pq_from_fields(kind: u32, year: i32, month: u32, day: u32, hour: u32) -> PqAnswer
     ensures { λ r. ⌜ r ≡ dateCrossed (ofKindGiven kind (λ k. fromFields k (record { year = year; month = month; day = day; hour = hour }))) ⌝ }
@@ -143,5 +102,5 @@ pub extern "C" fn pq_from_fields(kind: u32, year: i32, month: u32, day: u32, hou
     let Coded::Kind(kind) = codes::kind_of_code(kind) else {
         return crossing::not_of_kind();
     };
-    date_of_fields(kind, year, month, day, field_set_hour(kind, hour))
+    made_crossed(expanded::from_fields(kind, year, month, day, hour))
 }

@@ -5,7 +5,7 @@ use mathlib.Core.List.{List}
 use lib.IntN.{ℤ, pos}
 use Rattle.rules.specs.Words.{minus}
 use Rattle.rules.specs.Refusals.{Answer, Gives, Refused, _then_}
-use Rattle.rules.specs.Kinds.{Kind, Fields, Stored, fromFields, handedIn, stored, store, least, greatest}
+use Rattle.rules.specs.Kinds.{Kind, Fields, Stored, fromFields, stored, store, ofDate, ofDates, least, greatest}
 use Rattle.rules.specs.Numbers.{readsNumbers, readNumber, guesses, guessNumber, writesNumbers, writeNumber}
 use Rattle.rules.specs.Days.{countsDays, addDays, difference, Order, Before, Same, After, order}
 use Rattle.rules.specs.Text.{readText}
@@ -53,17 +53,14 @@ fieldsAnswer k f = dated (store (fromFields k f))
 
 -- ---- of dates handed in
 
-abbrev pub handed : Kind → Packed → Answer Fields
-handed k d = handedIn k (d .year) (d .word)
-
 abbrev pub sumAnswer : Kind → Packed → ℤ → Answer Value
-sumAnswer k d days = had (countsDays k) (dated (store (handed k d then λ f. addDays k f days)))
+sumAnswer k d days = had (countsDays k) (dated (store (ofDate k (bitsOf d) (λ f. addDays k f days))))
 
 abbrev pub differenceAnswer : Kind → Packed → Packed → Answer Value
-differenceAnswer k d e = had (countsDays k) (counted (handed k d then λ f. handed k e then λ g. difference k f g))
+differenceAnswer k d e = had (countsDays k) (counted (ofDates k (bitsOf d) (bitsOf e) (λ f g. difference k f g)))
 
 abbrev pub binaryAnswer : Kind → Packed → Answer Value
-binaryAnswer k d = had (writesNumbers k) (counted (handed k d then λ f. writeNumber k f))
+binaryAnswer k d = had (writesNumbers k) (counted (ofDate k (bitsOf d) (λ f. writeNumber k f)))
 
 -- an order as the original's `cmp` has it
 abbrev pub orderNumber : Order → ℤ
@@ -75,7 +72,7 @@ abbrev pub ordering : Answer Order → Answer Value
 ordering a = a then λ o. Gives (Counted (orderNumber o))
 
 abbrev pub orderAnswer : Kind → Packed → Packed → Answer Value
-orderAnswer k d e = ordering (handed k d then λ f. handed k e then λ g. Gives (order f g))
+orderAnswer k d e = ordering (ofDates k (bitsOf d) (bitsOf e) (λ f g. Gives (order f g)))
 
 -- ---- the constants
 

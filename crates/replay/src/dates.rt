@@ -2,10 +2,10 @@
 ghost use mathlib.Core.Path.{_≡_};
 ghost use Prim.Native.Nat.{_≤_};
 ghost use lib.ListN.{length};
-ghost use Rattle.rules.specs.Refusals.{Gives, _then_};
-ghost use Rattle.rules.specs.Kinds.{unpacked, handedIn};
+ghost use Rattle.rules.specs.Refusals.{Gives};
+ghost use Rattle.rules.specs.Kinds.{unpacked, ofDate};
 ghost use Rattle.rules.specs.Spelling.{dotted, iso, exchange, putAnswer, putBuffer};
-ghost use Rattle.expanded.specs.Views.{kindOf, fieldsOf};
+ghost use Rattle.expanded.specs.Views.{kindOf, fieldsOf, bitsOf};
 ghost use Rattle.formatter.specs.Views.{spelled, lengthOf};
 use date::Date;
 use date_hour::DateHour;
@@ -31,7 +31,7 @@ fn seen(year: i16, month: u8, day: u8, hour: u8) -> ExpandedRawDate
 
 // The stored hour of E is its component.
 pub(crate) fn shown(kind: Kind, raw: Packed) -> ExpandedRawDate
-    ensures { λ r. ⌜ fieldsOf r ≡ unpacked (raw .year) (raw .word) ⌝ }
+    ensures { λ r. ⌜ fieldsOf r ≡ unpacked (bitsOf raw) ⌝ }
 {
     match kind {
         Kind::Raw => {
@@ -62,8 +62,8 @@ pub(crate) fn shown(kind: Kind, raw: Packed) -> ExpandedRawDate
 }
 
 pub(crate) fn game_fmt(kind: Kind, raw: Packed, out: &mut [u8]) -> Spelled
-    ensures { λ r. ⌜ spelled r ≡ putAnswer (handedIn (kindOf kind) (raw .year) (raw .word) then λ f. Gives (dotted (kindOf kind) f)) (now (out .entry)) ⌝ }
-    ensures { λ _. ⌜ now (out .exit) ≡ putBuffer (handedIn (kindOf kind) (raw .year) (raw .word) then λ f. Gives (dotted (kindOf kind) f)) (now (out .entry)) ⌝ }
+    ensures { λ r. ⌜ spelled r ≡ putAnswer (ofDate (kindOf kind) (bitsOf raw) (λ f. Gives (dotted (kindOf kind) f))) (now (out .entry)) ⌝ }
+    ensures { λ _. ⌜ now (out .exit) ≡ putBuffer (ofDate (kindOf kind) (bitsOf raw) (λ f. Gives (dotted (kindOf kind) f))) (now (out .entry)) ⌝ }
     ensures { λ r. ⌜ lengthOf r ≤ length (now (out .entry)) ⌝ }
 {
     match kind {
@@ -77,8 +77,8 @@ pub(crate) fn game_fmt(kind: Kind, raw: Packed, out: &mut [u8]) -> Spelled
 }
 
 pub(crate) fn iso_8601(kind: Kind, raw: Packed, out: &mut [u8]) -> Spelled
-    ensures { λ r. ⌜ spelled r ≡ putAnswer (handedIn (kindOf kind) (raw .year) (raw .word) then λ f. Gives (iso (kindOf kind) f)) (now (out .entry)) ⌝ }
-    ensures { λ _. ⌜ now (out .exit) ≡ putBuffer (handedIn (kindOf kind) (raw .year) (raw .word) then λ f. Gives (iso (kindOf kind) f)) (now (out .entry)) ⌝ }
+    ensures { λ r. ⌜ spelled r ≡ putAnswer (ofDate (kindOf kind) (bitsOf raw) (λ f. Gives (iso (kindOf kind) f))) (now (out .entry)) ⌝ }
+    ensures { λ _. ⌜ now (out .exit) ≡ putBuffer (ofDate (kindOf kind) (bitsOf raw) (λ f. Gives (iso (kindOf kind) f))) (now (out .entry)) ⌝ }
     ensures { λ r. ⌜ lengthOf r ≤ length (now (out .entry)) ⌝ }
 {
     match kind {
@@ -92,8 +92,8 @@ pub(crate) fn iso_8601(kind: Kind, raw: Packed, out: &mut [u8]) -> Spelled
 }
 
 pub(crate) fn exchange(kind: Kind, raw: Packed, out: &mut [u8]) -> Spelled
-    ensures { λ r. ⌜ spelled r ≡ putAnswer (handedIn (kindOf kind) (raw .year) (raw .word) then λ f. Gives (exchange (kindOf kind) f)) (now (out .entry)) ⌝ }
-    ensures { λ _. ⌜ now (out .exit) ≡ putBuffer (handedIn (kindOf kind) (raw .year) (raw .word) then λ f. Gives (exchange (kindOf kind) f)) (now (out .entry)) ⌝ }
+    ensures { λ r. ⌜ spelled r ≡ putAnswer (ofDate (kindOf kind) (bitsOf raw) (λ f. Gives (exchange (kindOf kind) f))) (now (out .entry)) ⌝ }
+    ensures { λ _. ⌜ now (out .exit) ≡ putBuffer (ofDate (kindOf kind) (bitsOf raw) (λ f. Gives (exchange (kindOf kind) f))) (now (out .entry)) ⌝ }
     ensures { λ r. ⌜ lengthOf r ≤ length (now (out .entry)) ⌝ }
 {
     match kind {

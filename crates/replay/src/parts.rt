@@ -2,6 +2,7 @@
 // do, so that a row is read to its end, and tested once.
 ghost use Prim.Native.Nat.{_≤_};
 use expanded::ExpandedRawDate;
+use expanded::NO_MARK;
 use expanded::Packed;
 use rows::NOWHERE;
 use rows::Number;
@@ -78,11 +79,14 @@ pub(crate) fn date(row: &[u8], at: usize) -> ReadDate {
     let month = at_most(row, rows::after(row, year.next, b' '), 15);
     let day = at_most(row, rows::after(row, month.next, b' '), 31);
     let hour = at_most(row, rows::after(row, day.next, b' '), 31);
+    let fields = ExpandedRawDate {
+        year: year.value,
+        month: month.up as u8,
+        day: day.up as u8,
+        hour: hour.up as u8,
+    };
     ReadDate {
-        date: Packed {
-            year: year.value,
-            word: (month.up * 4096 + day.up * 128 + hour.up * 4) as u16,
-        },
+        date: expanded::pack(NO_MARK, fields),
         next: hour.next,
     }
 }

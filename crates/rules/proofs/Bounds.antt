@@ -5,11 +5,11 @@ use lib.IntN.{pos, negsuc}
 use Rattle.rules.specs.Words.{bytes}
 use Rattle.rules.specs.Refusals.{Answer, Refused}
 use Rattle.rules.specs.Calendar.{lengths, monthLength, sumFirst, firstDay, dayOfYear, walk, monthDay}
-use Rattle.rules.specs.Kinds.{kR, kD, kH, kU, kE, kV, Fields, fitsKind, ofKind, made, fromFields, settled, unpacked, handedIn}
+use Rattle.rules.specs.Kinds.{kR, kD, kH, kU, kE, kV, Fields, fitsKind, ofKind, made, fromFields, settled, unpacked, markAllowed, markOf, handed}
 use Rattle.rules.specs.Numbers.{numberFields, decoded, readNumber, guessNumber}
 use Rattle.rules.specs.Days.{dayNumber, dayFields, summed, addDays, startOfDay}
 use Rattle.rules.specs.Text.{digits, afterDigits, decimalValue, leading, secondDigit, oneOrTwo, afterDot, hourAfter, dottedPart, numberText, shapeAllowed, textFields, readText}
-use Rattle.rules.proofs.Cases.{Case, _is_, answers, literals, on, date}
+use Rattle.rules.proofs.Cases.{Case, _is_, answers, literals, on, date, bits}
 
 -- fields, and dates handed in (1444.11.11 with hour 22 is the word 46552)
 abbrev pub fields : List (Case (Answer Fields))
@@ -35,17 +35,17 @@ fields =
     ∷ (fromFields kE (on (pos 1444) 1 32 0) is Refused 4)
     ∷ (fromFields kV (on (pos 1444) 2 28 18) is date (pos 1444) 2 28 18)
     ∷ (fromFields kV (on (pos 1444) 2 28 17) is Refused 4)
-    ∷ (handedIn kE (pos 1444) 46552 is date (pos 1444) 11 11 22)
-    ∷ (handedIn kE (pos 1444) 46553 is Refused 4)
-    ∷ (handedIn kE (pos 1444) 46554 is Refused 4)
-    ∷ (handedIn kE (pos 1444) 46556 is Refused 4)
-    ∷ (handedIn kR (pos 1444) 46556 is date (pos 1444) 11 11 23)
-    ∷ (handedIn kD (pos 1444) 46552 is Refused 4)
-    ∷ (handedIn kD (pos 1444) 46464 is date (pos 1444) 11 11 0)
+    ∷ (handed kE (bits (pos 1444) 46552) is date (pos 1444) 11 11 22)
+    ∷ (handed kE (bits (pos 1444) 46553) is Refused 4)
+    ∷ (handed kE (bits (pos 1444) 46554) is Refused 4)
+    ∷ (handed kE (bits (pos 1444) 46556) is Refused 4)
+    ∷ (handed kR (bits (pos 1444) 46556) is date (pos 1444) 11 11 23)
+    ∷ (handed kD (bits (pos 1444) 46552) is Refused 4)
+    ∷ (handed kD (bits (pos 1444) 46464) is date (pos 1444) 11 11 0)
     ∷ []
 
 pub fields-hold : answers fields ≡ literals fields
-unfolding lengths monthLength fitsKind ofKind made fromFields handedIn
+unfolding lengths monthLength fitsKind ofKind made fromFields handed
 fields-hold = refl
 
 -- D's lengths and its `+`; number texts; years; hours

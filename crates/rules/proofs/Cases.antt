@@ -3,7 +3,7 @@ use Prim.Native.Nat.{ℕ}
 use mathlib.Core.List.{List, map}
 use lib.IntN.{ℤ}
 use Rattle.rules.specs.Refusals.{Answer, Gives}
-use Rattle.rules.specs.Kinds.{Fields}
+use Rattle.rules.specs.Kinds.{Fields, Stored}
 
 pub record Case (A : Type 0) : Type 0 where
   pub asked : A
@@ -26,3 +26,7 @@ on y m d h = record { year = y; month = m; day = d; hour = h }
 
 abbrev pub date : ℤ → ℕ → ℕ → ℕ → Answer Fields
 date y m d h = Gives (on y m d h)
+
+-- a date's bits
+abbrev pub bits : ℤ → ℕ → Stored
+bits y w = record { year = y; word = w }

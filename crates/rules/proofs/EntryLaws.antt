@@ -12,10 +12,10 @@ use Rattle.sign.specs.Halves.{up, dn}
 use Rattle.sign.proofs.Laws.{same, ints}
 use Rattle.rules.specs.Words.{bigEndian, bigBytes}
 use Rattle.rules.specs.Refusals.{Answer, Gives, _then_, given}
-use Rattle.rules.specs.Kinds.{Kind, kR, kD, kH, kU, kE, kV, Fields, ofKind, packed, handedIn}
+use Rattle.rules.specs.Kinds.{Kind, kR, kD, kH, kU, kE, kV, Fields, ofKind, Stored, packed, ofDate}
 use Rattle.rules.specs.Book.{kindCode, kindOfCode, twosComplement, yearOfTwos, entryBytes, Entry, entryFrom, entryOf, entryFor, soundBy, version1, check, entryAt, appendAnswer, appendBuffer}
 use Rattle.rules.proofs.KindLaws.{fit}
-use Rattle.rules.proofs.PackLaws.{handed-back, word-fits}
+use Rattle.rules.proofs.PackLaws.{handed-back, plain-word, word-fits}
 use Rattle.rules.proofs.ByteLaws.{number-back}
 use Rattle.rules.proofs.FrameLaws.{Sensible}
 use Rattle.rules.proofs.AppendLaws as A
@@ -71,15 +71,15 @@ entry-back k f p =
     let y : bigEndian (bigBytes 2 (twosComplement (f .year))) ≡ twosComplement (f .year) =
     number-back 2 _ (let h = twos-fit (f .year) (t .year-high) (t .year-low) in omega arith) in
     let w : bigEndian (bigBytes 2 (packed f)) ≡ packed f = number-back 2 _ (let h = word-fits k f p in omega arith) in
-    rw (code-back k, y, year-back (f .year) (t .year-high) (t .year-low), w, handed-back k f p)
+    rw (code-back k, y, year-back (f .year) (t .year-high) (t .year-low), w, ← plain-word f, handed-back k f p)
 
 pub entry-sound : (k : Kind) (f : Fields) → ofKind k f ≡ true → soundBy version1 (entryBytes k f) ≡ true
 entry-sound k f p = ap given (entry-back k f p)
 
 -- the record of a date handed in, by its kind's code
-pub entry-for : (k : Kind) (year : ℤ) (word : ℕ) → entryFor (kindCode k) year word ≡ (handedIn k year word then λ f. Gives (entryBytes k f))
+pub entry-for : (k : Kind) (d : Stored) → entryFor (kindCode k) d ≡ ofDate k d (λ f. Gives (entryBytes k f))
 unfolding entryFor
-entry-for k year word = rw (code-back k)
+entry-for k d = rw (code-back k)
 
 -- ---- version 1
 

@@ -7,7 +7,7 @@ use lib.IntN.{ℤ, pos, negsuc, _-ℤ_}
 use lib.ListN.{length, getD, take, drop}
 use Rattle.rules.specs.Words.{within, bigEndian, bigBytes}
 use Rattle.rules.specs.Refusals.{Answer, Gives, Refused, RefusedAt, _then_, demand, given, notOfKind, badLength, badVersion, badRecord, noRoom, noRecord}
-use Rattle.rules.specs.Kinds.{Kind, kR, kD, kH, kU, kE, kV, kindBy, Fields, packed, handedIn}
+use Rattle.rules.specs.Kinds.{Kind, kR, kD, kH, kU, kE, kV, kindBy, Fields, Stored, packed, handed, ofDate}
 
 -- ---- the frame and the format
 
@@ -161,7 +161,7 @@ pub record Entry : Type 0 where
 unfoldable pub entryFrom : ℕ → List ℕ → Answer Entry
 entryFrom at r =
     kindOfCode (getD r 0 0) then λ k.
-    handedIn k (yearOfTwos (bigEndian (take 2 (drop at r)))) (bigEndian (take 2 (drop (at + 2) r))) then λ f.
+    handed k (record { year = yearOfTwos (bigEndian (take 2 (drop at r))); word = bigEndian (take 2 (drop (at + 2) r)) }) then λ f.
     Gives (record { kind = k; date = f })
 
 -- the date follows the kind
@@ -173,6 +173,5 @@ abbrev pub version1 : Format Entry
 version1 = record { frame = record { size = 5; most = 4096; version = 1 }; entry = entryOf }
 
 -- the record of a date handed in, by its kind's code
-unfoldable pub entryFor : ℕ → ℤ → ℕ → Answer (List ℕ)
-entryFor code year word =
-    kindOfCode code then λ k. handedIn k year word then λ f. Gives (entryBytes k f)
+unfoldable pub entryFor : ℕ → Stored → Answer (List ℕ)
+entryFor code d = kindOfCode code then λ k. ofDate k d (λ f. Gives (entryBytes k f))

@@ -104,24 +104,51 @@ inGameHour h = h / 2 + 8
 unfoldable pub packed : Fields → ℕ
 packed f = f .month * 4096 + f .day * 128 + f .hour * 4
 
--- the fields of a year and a word, whatever the word's two low bits
-abbrev pub unpacked : ℤ → ℕ → Fields
-unpacked year word = record { year = year; month = word / 4096; day = word / 128 % 32; hour = word / 4 % 32 }
+-- the mark of a word is its two low bits; the word of fields with a mark, and the word's mark back
+abbrev pub wordOf : ℕ → Fields → ℕ
+wordOf mark f = packed f + mark
 
--- a date handed in, as its year and its word: one of the kind, its two low bits 0, or 4
-unfoldable pub handedIn : Kind → ℤ → ℕ → Answer Fields
-handedIn k year word = demand (eqb (word % 4) 0) notOfKind (made k notOfKind (unpacked year word))
+abbrev pub markOf : ℕ → ℕ
+markOf word = word % 4
+
+-- a date that is made has none
+abbrev pub noMark : ℕ
+noMark = 0
+
+-- the marks that a date handed in may have: none, since the packed word leaves those bits 0
+abbrev pub markAllowed : ℕ → Bool
+markAllowed mark = eqb mark noMark
 
 -- a date as it is stored: its year, and its word beside it
 pub record Stored : Type 0 where
   pub year : ℤ
   pub word : ℕ
 
+abbrev pub storedWith : ℕ → Fields → Stored
+storedWith mark f = record { year = f .year; word = wordOf mark f }
+
 abbrev pub stored : Fields → Stored
-stored f = record { year = f .year; word = packed f }
+stored f = storedWith noMark f
 
 abbrev pub store : Answer Fields → Answer Stored
 store a = a then λ f. Gives (stored f)
+
+-- the fields of a stored date, whatever its mark
+abbrev pub unpacked : Stored → Fields
+unpacked d = record { year = d .year; month = d .word / 4096; day = d .word / 128 % 32; hour = d .word / 4 % 32 }
+
+-- ---- a date handed in
+
+-- the fields of the date, if it is one of the kind and its mark is allowed, or 4
+unfoldable pub handed : Kind → Stored → Answer Fields
+handed k d = demand (markAllowed (markOf (d .word))) notOfKind (made k notOfKind (unpacked d))
+
+-- what is answered of a date handed in, or 4; and of two, the first before the second
+abbrev pub ofDate : {A : Type 0} → Kind → Stored → (Fields → Answer A) → Answer A
+ofDate k d next = handed k d then next
+
+abbrev pub ofDates : {A : Type 0} → Kind → Stored → Stored → (Fields → Fields → Answer A) → Answer A
+ofDates k d e next = ofDate k d (λ f. ofDate k e (next f))
 
 -- ---- least and greatest
 

@@ -2,8 +2,8 @@
 ghost use mathlib.Core.Path.{_≡_};
 ghost use Prim.Native.Nat.{_≤_};
 ghost use lib.ListN.{length};
-ghost use Rattle.rules.specs.Refusals.{Gives, _then_};
-ghost use Rattle.rules.specs.Kinds.{kU, unpacked, least, greatest, fromFields, handedIn, stored, store};
+ghost use Rattle.rules.specs.Refusals.{Gives};
+ghost use Rattle.rules.specs.Kinds.{kU, unpacked, least, greatest, fromFields, stored, store, ofDate, ofDates};
 ghost use Rattle.rules.specs.Days.{order};
 ghost use Rattle.rules.specs.Text.{readText};
 ghost use Rattle.rules.specs.Spelling.{dotted, iso, exchange, putAnswer, putBuffer};
@@ -78,21 +78,21 @@ impl UniformDate {
     }
 
     pub fn month(self) -> u8
-        ensures { λ r. ⌜ r ≡ unpacked (self .raw .year) (self .raw .word) .month ⌝ }
+        ensures { λ r. ⌜ r ≡ unpacked (bits self) .month ⌝ }
     {
-        (self.raw.word / 4096) as u8
+        expanded::month_of(self.raw)
     }
 
     pub fn day(self) -> u8
-        ensures { λ r. ⌜ r ≡ unpacked (self .raw .year) (self .raw .word) .day ⌝ }
+        ensures { λ r. ⌜ r ≡ unpacked (bits self) .day ⌝ }
     {
-        (self.raw.word / 128 % 32) as u8
+        expanded::day_of(self.raw)
     }
 
     pub fn hour(self) -> u8
-        ensures { λ r. ⌜ r ≡ unpacked (self .raw .year) (self .raw .word) .hour ⌝ }
+        ensures { λ r. ⌜ r ≡ unpacked (bits self) .hour ⌝ }
     {
-        (self.raw.word / 4 % 32) as u8
+        expanded::hour_of(self.raw)
     }
 
     pub fn parse(s: &[u8]) -> Parsed
@@ -112,15 +112,15 @@ impl UniformDate {
     }
 
     pub fn compare(self, other: UniformDate) -> Ordered
-        ensures { λ r. ⌜ ordered r ≡ (handedIn kU (self .raw .year) (self .raw .word) then λ f. handedIn kU (other .raw .year) (other .raw .word) then λ g. Gives (order f g)) ⌝ }
+        ensures { λ r. ⌜ ordered r ≡ ofDates kU (bits self) (bits other) (λ f g. Gives (order f g)) ⌝ }
     {
         expanded::compare(Kind::Uniform, self.raw, other.raw)
     }
 
     // The dotted text at the front of a buffer.
     pub fn game_fmt(self, out: &mut [u8]) -> Spelled
-        ensures { λ r. ⌜ spelled r ≡ putAnswer (handedIn kU (self .raw .year) (self .raw .word) then λ f. Gives (dotted kU f)) (now (out .entry)) ⌝ }
-        ensures { λ _. ⌜ now (out .exit) ≡ putBuffer (handedIn kU (self .raw .year) (self .raw .word) then λ f. Gives (dotted kU f)) (now (out .entry)) ⌝ }
+        ensures { λ r. ⌜ spelled r ≡ putAnswer (ofDate kU (bits self) (λ f. Gives (dotted kU f))) (now (out .entry)) ⌝ }
+        ensures { λ _. ⌜ now (out .exit) ≡ putBuffer (ofDate kU (bits self) (λ f. Gives (dotted kU f))) (now (out .entry)) ⌝ }
         ensures { λ r. ⌜ lengthOf r ≤ length (now (out .entry)) ⌝ }
     {
         formatter::game_fmt(Kind::Uniform, self.raw, out)
@@ -128,8 +128,8 @@ impl UniformDate {
 
     // The ISO text.
     pub fn iso_8601(self, out: &mut [u8]) -> Spelled
-        ensures { λ r. ⌜ spelled r ≡ putAnswer (handedIn kU (self .raw .year) (self .raw .word) then λ f. Gives (iso kU f)) (now (out .entry)) ⌝ }
-        ensures { λ _. ⌜ now (out .exit) ≡ putBuffer (handedIn kU (self .raw .year) (self .raw .word) then λ f. Gives (iso kU f)) (now (out .entry)) ⌝ }
+        ensures { λ r. ⌜ spelled r ≡ putAnswer (ofDate kU (bits self) (λ f. Gives (iso kU f))) (now (out .entry)) ⌝ }
+        ensures { λ _. ⌜ now (out .exit) ≡ putBuffer (ofDate kU (bits self) (λ f. Gives (iso kU f))) (now (out .entry)) ⌝ }
         ensures { λ r. ⌜ lengthOf r ≤ length (now (out .entry)) ⌝ }
     {
         formatter::iso_8601(Kind::Uniform, self.raw, out)
@@ -137,8 +137,8 @@ impl UniformDate {
 
     // The exchange text.
     pub fn exchange(self, out: &mut [u8]) -> Spelled
-        ensures { λ r. ⌜ spelled r ≡ putAnswer (handedIn kU (self .raw .year) (self .raw .word) then λ f. Gives (exchange kU f)) (now (out .entry)) ⌝ }
-        ensures { λ _. ⌜ now (out .exit) ≡ putBuffer (handedIn kU (self .raw .year) (self .raw .word) then λ f. Gives (exchange kU f)) (now (out .entry)) ⌝ }
+        ensures { λ r. ⌜ spelled r ≡ putAnswer (ofDate kU (bits self) (λ f. Gives (exchange kU f))) (now (out .entry)) ⌝ }
+        ensures { λ _. ⌜ now (out .exit) ≡ putBuffer (ofDate kU (bits self) (λ f. Gives (exchange kU f))) (now (out .entry)) ⌝ }
         ensures { λ r. ⌜ lengthOf r ≤ length (now (out .entry)) ⌝ }
     {
         formatter::exchange(Kind::Uniform, self.raw, out)

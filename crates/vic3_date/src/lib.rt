@@ -2,8 +2,8 @@
 ghost use mathlib.Core.Path.{_≡_};
 ghost use Prim.Native.Nat.{_≤_};
 ghost use lib.ListN.{length};
-ghost use Rattle.rules.specs.Refusals.{Gives, _then_};
-ghost use Rattle.rules.specs.Kinds.{kV, unpacked, least, greatest, fromFields, handedIn, stored, store};
+ghost use Rattle.rules.specs.Refusals.{Gives};
+ghost use Rattle.rules.specs.Kinds.{kV, unpacked, least, greatest, fromFields, stored, store, ofDate, ofDates};
 ghost use Rattle.rules.specs.Numbers.{readNumber, guessNumber};
 ghost use Rattle.rules.specs.Days.{addDays, difference, order};
 ghost use Rattle.rules.specs.Text.{readText};
@@ -101,21 +101,21 @@ impl Vic3Date {
     }
 
     pub fn month(self) -> u8
-        ensures { λ r. ⌜ r ≡ unpacked (self .raw .year) (self .raw .word) .month ⌝ }
+        ensures { λ r. ⌜ r ≡ unpacked (bits self) .month ⌝ }
     {
-        (self.raw.word / 4096) as u8
+        expanded::month_of(self.raw)
     }
 
     pub fn day(self) -> u8
-        ensures { λ r. ⌜ r ≡ unpacked (self .raw .year) (self .raw .word) .day ⌝ }
+        ensures { λ r. ⌜ r ≡ unpacked (bits self) .day ⌝ }
     {
-        (self.raw.word / 128 % 32) as u8
+        expanded::day_of(self.raw)
     }
 
     pub fn hour(self) -> u8
-        ensures { λ r. ⌜ r ≡ unpacked (self .raw .year) (self .raw .word) .hour ⌝ }
+        ensures { λ r. ⌜ r ≡ unpacked (bits self) .hour ⌝ }
     {
-        (self.raw.word / 4 % 32) as u8
+        expanded::hour_of(self.raw)
     }
 
     pub fn parse(s: &[u8]) -> Parsed
@@ -158,7 +158,7 @@ impl Vic3Date {
 
     // A new date; the old one stays.
     pub fn add_days(self, days: i32) -> Summed
-        ensures { λ r. ⌜ summed r ≡ store (handedIn kV (self .raw .year) (self .raw .word) then λ f. addDays kV f days) ⌝ }
+        ensures { λ r. ⌜ summed r ≡ store (ofDate kV (bits self) (λ f. addDays kV f days)) ⌝ }
     {
         let sum = day_count::add_days(Kind::Vic3, self.raw, days);
         match sum {
@@ -170,21 +170,21 @@ impl Vic3Date {
     }
 
     pub fn days_until(self, other: Vic3Date) -> Days
-        ensures { λ r. ⌜ counted r ≡ (handedIn kV (self .raw .year) (self .raw .word) then λ f. handedIn kV (other .raw .year) (other .raw .word) then λ g. difference kV f g) ⌝ }
+        ensures { λ r. ⌜ counted r ≡ ofDates kV (bits self) (bits other) (λ f g. difference kV f g) ⌝ }
     {
         day_count::days_until(Kind::Vic3, self.raw, other.raw)
     }
 
     pub fn compare(self, other: Vic3Date) -> Ordered
-        ensures { λ r. ⌜ ordered r ≡ (handedIn kV (self .raw .year) (self .raw .word) then λ f. handedIn kV (other .raw .year) (other .raw .word) then λ g. Gives (order f g)) ⌝ }
+        ensures { λ r. ⌜ ordered r ≡ ofDates kV (bits self) (bits other) (λ f g. Gives (order f g)) ⌝ }
     {
         expanded::compare(Kind::Vic3, self.raw, other.raw)
     }
 
     // The dotted text at the front of a buffer.
     pub fn game_fmt(self, out: &mut [u8]) -> Spelled
-        ensures { λ r. ⌜ spelled r ≡ putAnswer (handedIn kV (self .raw .year) (self .raw .word) then λ f. Gives (dotted kV f)) (now (out .entry)) ⌝ }
-        ensures { λ _. ⌜ now (out .exit) ≡ putBuffer (handedIn kV (self .raw .year) (self .raw .word) then λ f. Gives (dotted kV f)) (now (out .entry)) ⌝ }
+        ensures { λ r. ⌜ spelled r ≡ putAnswer (ofDate kV (bits self) (λ f. Gives (dotted kV f))) (now (out .entry)) ⌝ }
+        ensures { λ _. ⌜ now (out .exit) ≡ putBuffer (ofDate kV (bits self) (λ f. Gives (dotted kV f))) (now (out .entry)) ⌝ }
         ensures { λ r. ⌜ lengthOf r ≤ length (now (out .entry)) ⌝ }
     {
         formatter::game_fmt(Kind::Vic3, self.raw, out)
@@ -192,8 +192,8 @@ impl Vic3Date {
 
     // The ISO text.
     pub fn iso_8601(self, out: &mut [u8]) -> Spelled
-        ensures { λ r. ⌜ spelled r ≡ putAnswer (handedIn kV (self .raw .year) (self .raw .word) then λ f. Gives (iso kV f)) (now (out .entry)) ⌝ }
-        ensures { λ _. ⌜ now (out .exit) ≡ putBuffer (handedIn kV (self .raw .year) (self .raw .word) then λ f. Gives (iso kV f)) (now (out .entry)) ⌝ }
+        ensures { λ r. ⌜ spelled r ≡ putAnswer (ofDate kV (bits self) (λ f. Gives (iso kV f))) (now (out .entry)) ⌝ }
+        ensures { λ _. ⌜ now (out .exit) ≡ putBuffer (ofDate kV (bits self) (λ f. Gives (iso kV f))) (now (out .entry)) ⌝ }
         ensures { λ r. ⌜ lengthOf r ≤ length (now (out .entry)) ⌝ }
     {
         formatter::iso_8601(Kind::Vic3, self.raw, out)
@@ -201,8 +201,8 @@ impl Vic3Date {
 
     // The exchange text.
     pub fn exchange(self, out: &mut [u8]) -> Spelled
-        ensures { λ r. ⌜ spelled r ≡ putAnswer (handedIn kV (self .raw .year) (self .raw .word) then λ f. Gives (exchange kV f)) (now (out .entry)) ⌝ }
-        ensures { λ _. ⌜ now (out .exit) ≡ putBuffer (handedIn kV (self .raw .year) (self .raw .word) then λ f. Gives (exchange kV f)) (now (out .entry)) ⌝ }
+        ensures { λ r. ⌜ spelled r ≡ putAnswer (ofDate kV (bits self) (λ f. Gives (exchange kV f))) (now (out .entry)) ⌝ }
+        ensures { λ _. ⌜ now (out .exit) ≡ putBuffer (ofDate kV (bits self) (λ f. Gives (exchange kV f))) (now (out .entry)) ⌝ }
         ensures { λ r. ⌜ lengthOf r ≤ length (now (out .entry)) ⌝ }
     {
         formatter::exchange(Kind::Vic3, self.raw, out)

@@ -2,18 +2,19 @@
 use mathlib.Core.Path.{_≡_, sym, ap, _∙_}
 use mir.Facts.{toZ-ofZ}
 use Rattle.rules.specs.Refusals.{Gives}
-use Rattle.rules.specs.Kinds.{handedIn}
+use Rattle.rules.specs.Kinds.{handed}
 use Rattle.rules.specs.Days.{addDays}
-use Rattle.expanded.specs.Views.{kindOf, fieldsOf, opened}
-use Rattle.day_count.proofs.Laws.{on-calendar, hour-low, lacking}
+use Rattle.expanded.specs.Views.{kindOf, fieldsOf, bitsOf, opened}
+use Rattle.day_count.proofs.Laws.{on-calendar, hour-low}
+use Rattle.rules.proofs.PackLaws.{lacking}
 use borrow.Author.Needs.{needs}
 use Rattle.day_count.proofs.add_days.Statement.{statement}
 use Rattle.day_count.proofs.add_days.Tie as tie
 
 -- the fields that were found are those of the date handed in
-handed : (c : tie.After-known-told) → let a = c .before .before .before .before .before .before .args in
-    handedIn (kindOf (a .kind)) (a .date .year) (a .date .word) ≡ Gives (fieldsOf (c .before .opened .given .0 .0))
-handed c = sym (c .before .before .before .unpack .ensures) ∙ ap opened (c .before .opened .given .1)
+found : (c : tie.After-known-told) → let a = c .before .before .before .before .before .before .args in
+    handed (kindOf (a .kind)) (bitsOf (a .date)) ≡ Gives (fieldsOf (c .before .opened .given .0 .0))
+found c = sym (c .before .before .before .unpack .ensures) ∙ ap opened (c .before .opened .given .1)
 
 returns : tie.Need-returns
 returns c = rw (sym (c .before .before .unpack .ensures) ∙ ap opened (c .enum-told .given .1))
@@ -21,19 +22,19 @@ returns c = rw (sym (c .before .before .unpack .ensures) ∙ ap opened (c .enum-
 moved-requires : tie.Need-moved-requires
 moved-requires c κs =
     let k = c .before in
-    let f = handed k in
-    (on-calendar _ _ _ _ f (sym (k .before .before .before .before .before .counts-days .ensures) ∙ k .before .before .before .before .if1 .taken), rw (c .summed-hour .ensures) (hour-low _ _ _ _ f))
+    let f = found k in
+    (on-calendar _ _ _ f (sym (k .before .before .before .before .before .counts-days .ensures) ∙ k .before .before .before .before .if1 .taken), rw (c .summed-hour .ensures) (hour-low _ _ _ f))
 
 returns-2 : tie.Need-returns-2
 unfolding addDays
 returns-2 c =
     let k = c .before .before in
-    rw (handed k, sym (k .before .before .before .before .before .counts-days .ensures) ∙ k .before .before .before .before .if1 .taken)
+    rw (found k, sym (k .before .before .before .before .before .counts-days .ensures) ∙ k .before .before .before .before .if1 .taken)
     (rw (toZ-ofZ (k .before .before .before .before .before .before .fits .days), c .before .summed-hour .ensures) at (c .moved .ensures))
 
 returns-3 : tie.Need-returns-3
 unfolding addDays
-returns-3 c = rw (sym (c .before .counts-days .ensures) ∙ c .if1 .left, lacking _ _ _)
+returns-3 c = rw (sym (c .before .counts-days .ensures) ∙ c .if1 .left, lacking _ _)
 
 pub add-days-spec : {M : Type 1} → statement M
 add-days-spec =

@@ -1,10 +1,11 @@
--- `day_count::date_of` meets its contract: year, month and day are those of the number, and the word is packed of them. Assumes nothing.
-use mathlib.Core.Path.{_∙_}
+-- `day_count::date_of` meets its contract: year, month and day are those of the number. Assumes nothing.
+use mathlib.Core.Path.{ap, _∙_}
 use native.Mathlib.Omega.{arith}
 use Prim.Native.Nat.{_+_, _%_, _≤_}
 use mir.Syntax.{w16}
 use Rattle.sign.proofs.Bits.{held}
 use Rattle.rules.specs.Calendar.{monthDay}
+use Rattle.rules.specs.Kinds.{stored}
 use Rattle.rules.proofs.CalendarLaws.{is-day, length-small}
 use Rattle.day_count.proofs.Laws.{date-is}
 use borrow.Author.Needs.{needs}
@@ -20,19 +21,15 @@ small c =
     let e = c .month-day-from-julian .ensures in
     omega arith
 
-mul-word : tie.Need-mul-word
-mul-word c = omega (arith, small c)
-
-add-word : tie.Need-add-word
-add-word c = omega (arith, small c)
-
-add-word-2 : tie.Need-add-word-2
-add-word-2 c = omega (arith, small c)
+pack-requires : tie.Need-pack-requires
+pack-requires c κs = (omega arith, omega (arith, small c), omega (arith, small c), c .before .before .pre .3)
 
 returns : tie.Need-returns
 returns c =
-    let y = held w16 (c .before .int16 .ok) ∙ c .before .int16 .ensures in
-    date-is _ _ (c .before .before .pre .0) _ y (c .month-day-from-julian .ensures .0) (c .month-day-from-julian .ensures .1)
+    let t = c .before in
+    let y = held w16 (t .before .int16 .ok) ∙ t .before .int16 .ensures in
+    c .pack .ensures
+    ∙ ap stored (date-is _ _ (t .before .before .pre .0) _ y (t .month-day-from-julian .ensures .0) (t .month-day-from-julian .ensures .1))
 
 pub date-of-spec : {M : Type 1} → statement M
 date-of-spec =
@@ -42,11 +39,5 @@ date-of-spec =
     (λ c. search needs)
     (λ c. search needs)
     (λ c κs. search needs)
-    (λ c. search needs)
-    mul-word
-    (λ c. search needs)
-    (λ c. search needs)
-    add-word
-    (λ c. search needs)
-    add-word-2
+    pack-requires
     returns)

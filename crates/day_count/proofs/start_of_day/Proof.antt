@@ -1,28 +1,49 @@
--- `day_count::start_of_day` meets its contract: a date's word without its last seven bits is that of the date with hour 0. Assumes nothing.
-use mathlib.Core.Path.{sym, _∙_}
-use Prim.Native.Nat.{_*_, _/_}
+-- `day_count::start_of_day` meets its contract: the fields of the date handed in, with hour 0. Assumes nothing.
+use mathlib.Core.Path.{_≡_, sym, ap, _∙_}
+use native.Mathlib.Omega.{arith}
 use mir.Syntax.{w16}
 use Rattle.sign.proofs.Bits.{held}
 use Rattle.rules.specs.Refusals.{Gives}
-use Rattle.day_count.proofs.Laws.{start-is, start-lacking, start-refused}
+use Rattle.rules.specs.Kinds.{stored, handed}
+use Rattle.rules.specs.Days.{startOfDay}
+use Rattle.rules.proofs.PackLaws.{lacking}
+use Rattle.expanded.specs.Views.{kindOf, fieldsOf, bitsOf, opened}
+use Rattle.day_count.proofs.Laws.{small-fields}
 use borrow.Author.Needs.{needs}
 use Rattle.day_count.proofs.start_of_day.Statement.{statement}
 use Rattle.day_count.proofs.start_of_day.Tie as tie
 
+-- the fields that were found are those of the date handed in
+found : (c : tie.After-known-told) → let a = c .before .before .before .before .before .before .args in
+    handed (kindOf (a .kind)) (bitsOf (a .date)) ≡ Gives (fieldsOf (c .before .opened .given .0 .0))
+found c = sym (c .before .before .before .unpack .ensures) ∙ ap opened (c .before .opened .given .1)
+
 returns : tie.Need-returns
-returns c =
-    let a = c .before .before .before .before .before .args in
-    let y = held w16 {z = a .date .year} (c .struct-told .given .0 .1) in
-    (λ i. Gives (record { year = y i; word = a .date .word / 128 * 128 }))
-    ∙ sym (start-is _ _ _ (sym (c .before .before .before .before .is-of-kind .ensures) ∙ c .before .before .before .if1 .taken) (sym (c .before .before .has-start .ensures) ∙ c .before .if2 .taken))
+returns c = rw (sym (c .before .before .unpack .ensures) ∙ ap opened (c .enum-told .given .1))
+
+pack-requires : tie.Need-pack-requires
+pack-requires c κs = let s = small-fields _ _ _ (found (c .before)) in (omega arith, s .0, s .1, omega arith)
 
 returns-2 : tie.Need-returns-2
+unfolding startOfDay
 returns-2 c =
-    sym (start-lacking _ _ _ (sym (c .before .before .before .is-of-kind .ensures) ∙ c .before .before .if1 .taken) (sym (c .before .has-start .ensures) ∙ c .if2 .left))
+    let k = c .before .before in
+    rw (found k, sym (k .before .before .before .before .before .has-start .ensures) ∙ k .before .before .before .before .if1 .taken)
+    (ap Gives (rw (held w16 (c .before .struct-told .given .0 .1)) at (c .pack .ensures)))
 
 returns-3 : tie.Need-returns-3
-returns-3 c = sym (start-refused _ _ _ (sym (c .before .is-of-kind .ensures) ∙ c .if1 .left))
+unfolding startOfDay
+returns-3 c = rw (sym (c .before .has-start .ensures) ∙ c .if1 .left, lacking _ _)
 
 pub start-of-day-spec : {M : Type 1} → statement M
 start-of-day-spec =
-    tie.close (tie.spec (λ c κs. search needs) (λ c κs. search needs) (λ c. search needs) returns returns-2 returns-3)
+    tie.close
+    (tie.spec
+    (λ c κs. search needs)
+    (λ c κs. search needs)
+    (λ c. search needs)
+    (λ c. search needs)
+    returns
+    pack-requires
+    returns-2
+    returns-3)

@@ -1,28 +1,35 @@
--- `expanded::unpack` meets its contract: the low bits, then the test of the fields. Assumes nothing.
+-- `expanded::unpack` meets its contract: the mark, then the test of the fields. Assumes nothing.
 use borrow.Author.Needs.{needs}
-use native.Mathlib.Omega.{arith}
-use mathlib.Core.Path.{_≡_, sym, _∙_}
-use Prim.Native.Nat.{_/_, _%_}
-use mir.Syntax.{w16}
-use Rattle.sign.proofs.Bits.{held}
-use Rattle.rules.specs.Refusals.{Gives}
-use Rattle.expanded.specs.Views.{kindOf}
-use Rattle.expanded.proofs.Laws.{low-bits-set, handed-is, handed-not}
+use mathlib.Core.Path.{_≡_, sym, ap, _∙_}
+use mathlib.Core.Bool.{true}
+use Rattle.rules.specs.Kinds.{markOf, markAllowed}
+use Rattle.expanded.specs.Views.{kindOf, bitsOf}
+use Rattle.expanded.proofs.Laws.{mark-refused, handed-is, handed-not}
 use Rattle.expanded.proofs.unpack.Statement.{statement}
 use Rattle.expanded.proofs.unpack.Tie as tie
 
+allowed : (c : tie.Then1) → markAllowed (markOf (c .before .before .before .args .date .word)) ≡ true
+allowed c = ap markAllowed (sym (c .before .before .mark-of .ensures)) ∙ sym (c .before .mark-allowed .ensures) ∙ c .if1 .taken
+
 returns : tie.Need-returns
-returns c = sym (low-bits-set _ _ _ (c .if1 .taken))
+returns c =
+    let a = c .before .before .before .before .before .before .args in
+    sym (handed-is (kindOf (a .kind)) (bitsOf (a .date)) (allowed (c .before .before .before)) (c .before .before .fields-of .ensures) (record { sfits = c .before .before .fields-of .ok .1 .1 .0 .1 })
+    (sym (c .before .fits-kind .ensures) ∙ c .if2 .taken))
 
 returns-2 : tie.Need-returns-2
 returns-2 c =
-    let g = c .struct-told .given .0 .1 in let w = c .before .before .before .before .args .date .word in rw (handed-is (kindOf (c .before .before .before .before .args .kind)) (c .before .before .before .before .args .date .year) w (c .before .before .before .if1 .left) (record { sfits = g }) (sym (c .before .before .fits-kind .ensures) ∙ c .before .if2 .taken)) (λ i. Gives (record { year = held w16 {z = c .before .before .before .before .args .date .year} g i; month = w / 4096; day = w / 128 % 32; hour = w / 4 % 32 }))
+    let a = c .before .before .before .before .before .before .args in
+    sym (handed-not (kindOf (a .kind)) (bitsOf (a .date)) (allowed (c .before .before .before)) (c .before .before .fields-of .ensures)
+    (sym (c .before .fits-kind .ensures) ∙ c .if2 .left))
 
 returns-3 : tie.Need-returns-3
 returns-3 c =
-    sym (handed-not _ _ _ (c .before .before .if1 .left) (sym (c .before .fits-kind .ensures) ∙ c .if2 .left))
+    let a = c .before .before .before .args in
+    sym (mark-refused (kindOf (a .kind)) (bitsOf (a .date))
+    (ap markAllowed (sym (c .before .before .mark-of .ensures)) ∙ sym (c .before .mark-allowed .ensures) ∙ c .if1 .left))
 
 pub unpack-spec : {M : Type 1} → statement M
 unpack-spec =
     tie.close
-    (tie.spec returns (λ c. search needs) (λ c. search needs) (λ c. search needs) (λ c κs. search needs) returns-2 returns-3)
+    (tie.spec (λ c κs. search needs) (λ c κs. search needs) (λ c κs. search needs) (λ c κs. search needs) returns returns-2 returns-3)

@@ -6,21 +6,21 @@ use denote.Ref.{now}
 use mir.Syntax.{w16}
 use Rattle.sign.proofs.Bits.{held}
 use Rattle.rules.specs.Refusals.{Gives}
-use Rattle.rules.specs.Kinds.{handedIn}
+use Rattle.rules.specs.Kinds.{handed}
 use Rattle.rules.specs.Spelling.{isoDate, isoDateAlone}
-use Rattle.expanded.specs.Views.{kindOf, fieldsOf, opened}
+use Rattle.expanded.specs.Views.{kindOf, fieldsOf, opened, bitsOf}
 use Rattle.formatter.proofs.PieceLaws.{date-text, small}
 use Rattle.formatter.proofs.Texts.{by-text, by-refusal}
 use Rattle.formatter.proofs.date_fmt.Statement.{statement}
 use Rattle.formatter.proofs.date_fmt.Tie as tie
 
 told : (c : tie.After-opened) → let a = c .before .before .before .before .args in
-    handedIn (kindOf (a .kind)) (a .date .year) (a .date .word) ≡ Gives (fieldsOf (c .opened .given .0 .0))
+    handed (kindOf (a .kind)) (bitsOf (a .date)) ≡ Gives (fieldsOf (c .opened .given .0 .0))
 told c = sym (c .before .before .unpack .ensures) ∙ ap opened (c .opened .given .1)
 
 put-text-requires : tie.Need-put-text-requires
 put-text-requires c κs =
-    let s = small _ _ _ _ (told (c .before .before .before .before .before .before .before)) in (c .before .before .iso-year .ensures .1, s .month, s .day, omega (arith, c .no-hour .ensures .1))
+    let s = small _ _ _ (told (c .before .before .before .before .before .before .before)) in (c .before .before .iso-year .ensures .1, s .month, s .day, omega (arith, c .no-hour .ensures .1))
 
 returns : tie.Need-returns
 unfolding isoDateAlone

@@ -3,22 +3,22 @@ use borrow.Author.Needs.{needs}
 use denote.Ref.{now}
 use Rattle.rules.specs.Spelling.{dotted}
 use Rattle.rules.proofs.LengthLaws.{text-lengths}
-use Rattle.expanded.specs.Views.{kindOf}
+use Rattle.expanded.specs.Views.{kindOf, bitsOf}
 use Rattle.listing.proofs.LineTexts.{fits}
 use Rattle.listing.proofs.output.put_dotted.Statement.{statement}
 use Rattle.listing.proofs.output.put_dotted.Tie as tie
 
 returns : tie.Need-returns
 returns c =
-    let w = fits (kindOf (c .before .before .before .before .before .before .before .before .args .kind)) (c .before .before .before .before .before .before .before .before .args .date .year) (c .before .before .before .before .before .before .before .before .args .date .word) (dotted (kindOf (c .before .before .before .before .before .before .before .before .args .kind))) (now (c .before .before .before .before .before .before .before .before .args .out)) (c .before .before .before .before .before .game-fmt .last .1 .1 .0) (c .before .before .before .before .before .game-fmt .result) (c .before .before .before .before .before .before .before .before .pre .1) (c .before .before .before .before .before .before .before .before .pre .0) (λ p. text-lengths (kindOf (c .before .before .before .before .before .before .before .before .args .kind)) _ p .dotted-length .1) (c .before .before .before .before .before .game-fmt .ensures) in (rw (c .before .text .given .1) at (w .answered), w .holds)
+    let w = fits (kindOf (c .before .before .before .before .before .before .before .before .args .kind)) (bitsOf (c .before .before .before .before .before .before .before .before .args .date)) (dotted (kindOf (c .before .before .before .before .before .before .before .before .args .kind))) (now (c .before .before .before .before .before .before .before .before .args .out)) (c .before .before .before .before .before .game-fmt .last .1 .1 .0) (c .before .before .before .before .before .game-fmt .result) (c .before .before .before .before .before .before .before .before .pre .1) (c .before .before .before .before .before .before .before .before .pre .0) (λ p. text-lengths (kindOf (c .before .before .before .before .before .before .before .before .args .kind)) _ p .dotted-length .1) (c .before .before .before .before .before .game-fmt .ensures) in (rw (c .before .text .given .1) at (w .answered), w .holds)
 
 returns-2 : tie.Need-returns-2
 returns-2 c =
-    let w = fits (kindOf (c .before .before .before .before .before .before .before .args .kind)) (c .before .before .before .before .before .before .before .args .date .year) (c .before .before .before .before .before .before .before .args .date .word) (dotted (kindOf (c .before .before .before .before .before .before .before .args .kind))) (now (c .before .before .before .before .before .before .before .args .out)) (c .before .before .before .before .game-fmt .last .1 .1 .0) (c .before .before .before .before .game-fmt .result) (c .before .before .before .before .before .before .before .pre .1) (c .before .before .before .before .before .before .before .pre .0) (λ p. text-lengths (kindOf (c .before .before .before .before .before .before .before .args .kind)) _ p .dotted-length .1) (c .before .before .before .before .game-fmt .ensures) in (rw (c .enum-told .given .1) at (w .answered), w .holds)
+    let w = fits (kindOf (c .before .before .before .before .before .before .before .args .kind)) (bitsOf (c .before .before .before .before .before .before .before .args .date)) (dotted (kindOf (c .before .before .before .before .before .before .before .args .kind))) (now (c .before .before .before .before .before .before .before .args .out)) (c .before .before .before .before .game-fmt .last .1 .1 .0) (c .before .before .before .before .game-fmt .result) (c .before .before .before .before .before .before .before .pre .1) (c .before .before .before .before .before .before .before .pre .0) (λ p. text-lengths (kindOf (c .before .before .before .before .before .before .before .args .kind)) _ p .dotted-length .1) (c .before .before .before .before .game-fmt .ensures) in (rw (c .enum-told .given .1) at (w .answered), w .holds)
 
 returns-3 : tie.Need-returns-3
 returns-3 c =
-    let w = fits (kindOf (c .before .before .before .before .before .before .before .args .kind)) (c .before .before .before .before .before .before .before .args .date .year) (c .before .before .before .before .before .before .before .args .date .word) (dotted (kindOf (c .before .before .before .before .before .before .before .args .kind))) (now (c .before .before .before .before .before .before .before .args .out)) (c .before .before .before .before .game-fmt .last .1 .1 .0) (c .before .before .before .before .game-fmt .result) (c .before .before .before .before .before .before .before .pre .1) (c .before .before .before .before .before .before .before .pre .0) (λ p. text-lengths (kindOf (c .before .before .before .before .before .before .before .args .kind)) _ p .dotted-length .1) (c .before .before .before .before .game-fmt .ensures) in (rw (c .enum-told2 .given .1) at (w .answered), w .holds)
+    let w = fits (kindOf (c .before .before .before .before .before .before .before .args .kind)) (bitsOf (c .before .before .before .before .before .before .before .args .date)) (dotted (kindOf (c .before .before .before .before .before .before .before .args .kind))) (now (c .before .before .before .before .before .before .before .args .out)) (c .before .before .before .before .game-fmt .last .1 .1 .0) (c .before .before .before .before .game-fmt .result) (c .before .before .before .before .before .before .before .pre .1) (c .before .before .before .before .before .before .before .pre .0) (λ p. text-lengths (kindOf (c .before .before .before .before .before .before .before .args .kind)) _ p .dotted-length .1) (c .before .before .before .before .game-fmt .ensures) in (rw (c .enum-told2 .given .1) at (w .answered), w .holds)
 
 pub put-dotted-spec : {M : Type 1} → statement M
 put-dotted-spec =

@@ -14,11 +14,11 @@ returns c =
     rw (by-code (c .before .before .before .kind-of-code .ensures) (c .before .enum-told .given .1)) (c .not-of-kind .ensures, refl)
 
 place-crossed-requires : tie.Need-place-crossed-requires
-place-crossed-requires c κs = rw (c .before .before .append .ensures .0) (append-small _ _ _ _)
+place-crossed-requires c κs = rw (c .before .before .append .ensures .0) (append-small _ _ _)
 
 returns-2 : tie.Need-returns-2
 returns-2 c =
-    rw (entry-code _ _ _ (by-code (c .before .before .before .before .before .before .before .before .before .kind-of-code .ensures) (c .before .before .before .before .before .before .before .kind .given .1)), ← c .before .before .before .before .date-in .ensures .0, ← c .before .before .before .before .date-in .ensures .1) (c .place-crossed .ensures ∙ ap crossed (c .before .before .before .append .ensures .0), c .before .before .before .append .ensures .1)
+    rw (entry-code _ _ (by-code (c .before .before .before .before .before .before .before .before .before .kind-of-code .ensures) (c .before .before .before .before .before .before .before .kind .given .1)), ← c .before .before .before .before .date-in .ensures) (c .place-crossed .ensures ∙ ap crossed (c .before .before .before .append .ensures .0), c .before .before .before .append .ensures .1)
 
 pub pq-book-append-spec : {M : Type 1} → statement M
 pq-book-append-spec =

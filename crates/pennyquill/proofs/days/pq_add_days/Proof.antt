@@ -13,7 +13,7 @@ returns c =
 
 returns-2 : tie.Need-returns-2
 returns-2 c =
-    rw (by-code (c .before .before .before .before .before .before .kind-of-code .ensures) (c .before .before .before .before .kind .given .1), ← c .before .before .date-in .ensures .0, ← c .before .before .date-in .ensures .1) (c .sum-crossed .ensures ∙ ap bitsCrossed (rw (toZ-ofZ (c .before .before .before .before .before .before .before .fits .days)) at (c .before .add-days .ensures)))
+    rw (by-code (c .before .before .before .before .before .before .kind-of-code .ensures) (c .before .before .before .before .kind .given .1), ← c .before .before .date-in .ensures) (c .sum-crossed .ensures ∙ ap bitsCrossed (rw (toZ-ofZ (c .before .before .before .before .before .before .before .fits .days)) at (c .before .add-days .ensures)))
 
 pub pq-add-days-spec : {M : Type 1} → statement M
 pq-add-days-spec =

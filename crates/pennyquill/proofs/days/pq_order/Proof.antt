@@ -12,7 +12,7 @@ returns c =
 
 returns-2 : tie.Need-returns-2
 returns-2 c =
-    rw (by-code (c .before .before .before .before .before .before .before .kind-of-code .ensures) (c .before .before .before .before .before .kind .given .1), ← c .before .before .before .date-in .ensures .0, ← c .before .before .before .date-in .ensures .1, ← c .before .before .date-in2 .ensures .0, ← c .before .before .date-in2 .ensures .1) (c .order-crossed .ensures ∙ ap orderCrossed (c .before .compare .ensures))
+    rw (by-code (c .before .before .before .before .before .before .before .kind-of-code .ensures) (c .before .before .before .before .before .kind .given .1), ← c .before .before .before .date-in .ensures, ← c .before .before .date-in2 .ensures) (c .order-crossed .ensures ∙ ap orderCrossed (c .before .compare .ensures))
 
 pub pq-order-spec : {M : Type 1} → statement M
 pq-order-spec =

@@ -12,7 +12,7 @@ returns c =
 
 returns-2 : tie.Need-returns-2
 returns-2 c =
-    rw (by-code (c .before .before .before .before .before .before .kind-of-code .ensures) (c .before .before .before .before .kind .given .1), ← c .before .before .date-in .ensures .0, ← c .before .before .date-in .ensures .1) (c .start-crossed .ensures ∙ ap bitsCrossed (c .before .start-of-day .ensures))
+    rw (by-code (c .before .before .before .before .before .before .kind-of-code .ensures) (c .before .before .before .before .kind .given .1), ← c .before .before .date-in .ensures) (c .start-crossed .ensures ∙ ap bitsCrossed (c .before .start-of-day .ensures))
 
 pub pq-start-of-day-spec : {M : Type 1} → statement M
 pq-start-of-day-spec =

@@ -12,7 +12,7 @@ returns c =
 
 returns-2 : tie.Need-returns-2
 returns-2 c =
-    rw (by-code (c .before .before .before .before .before .before .kind-of-code .ensures) (c .before .before .before .before .kind .given .1), ← c .before .before .date-in .ensures .0, ← c .before .before .date-in .ensures .1) (c .written-crossed .ensures ∙ ap numberCrossed (c .before .to-binary .ensures))
+    rw (by-code (c .before .before .before .before .before .before .kind-of-code .ensures) (c .before .before .before .before .kind .given .1), ← c .before .before .date-in .ensures) (c .written-crossed .ensures ∙ ap numberCrossed (c .before .to-binary .ensures))
 
 pub pq-to-number-spec : {M : Type 1} → statement M
 pq-to-number-spec =

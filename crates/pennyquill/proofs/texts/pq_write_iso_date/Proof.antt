@@ -14,11 +14,11 @@ returns c =
     rw (by-code (c .before .before .before .kind-of-code .ensures) (c .before .enum-told .given .1)) (c .not-of-kind .ensures, refl)
 
 text-crossed-requires : tie.Need-text-crossed-requires
-text-crossed-requires c κs = rw (c .before .before .date-fmt .ensures .0) (iso-date-small _ _ _ _)
+text-crossed-requires c κs = rw (c .before .before .date-fmt .ensures .0) (iso-date-small _ _ _)
 
 returns-2 : tie.Need-returns-2
 returns-2 c =
-    rw (by-code (c .before .before .before .before .before .before .before .before .before .kind-of-code .ensures) (c .before .before .before .before .before .before .before .kind .given .1), ← c .before .before .before .before .before .date-in .ensures .0, ← c .before .before .before .before .before .date-in .ensures .1) (c .text-crossed .ensures ∙ ap crossed (c .before .before .before .date-fmt .ensures .0), c .before .before .before .date-fmt .ensures .1 .0)
+    rw (by-code (c .before .before .before .before .before .before .before .before .before .kind-of-code .ensures) (c .before .before .before .before .before .before .before .kind .given .1), ← c .before .before .before .before .before .date-in .ensures) (c .text-crossed .ensures ∙ ap crossed (c .before .before .before .date-fmt .ensures .0), c .before .before .before .date-fmt .ensures .1 .0)
 
 pub pq-write-iso-date-spec : {M : Type 1} → statement M
 pq-write-iso-date-spec =

@@ -10,7 +10,7 @@ add-days-spec =
     tie.close
     (tie.spec
     (λ c κs. search needs) (λ c. search needs) (λ c. search needs) (λ c. search needs) (λ c. search needs)
-    (λ c. sum-told kV _ _ (c .before .before .before .before .fits .days) (c .before .before .before .add-days .ensures) (c .before .sum .given .1))
-    (λ c. sum-told kV _ _ (c .before .before .before .fits .days) (c .before .before .add-days .ensures) (c .enum-told .given .1))
-    (λ c. sum-told kV _ _ (c .before .before .before .fits .days) (c .before .before .add-days .ensures) (c .enum-told2 .given .1))
-    (λ c. sum-told kV _ _ (c .before .before .before .fits .days) (c .before .before .add-days .ensures) (c .enum-told3 .given .1)))
+    (λ c. sum-told kV _ (c .before .before .before .before .fits .days) (c .before .before .before .add-days .ensures) (c .before .sum .given .1))
+    (λ c. sum-told kV _ (c .before .before .before .fits .days) (c .before .before .add-days .ensures) (c .enum-told .given .1))
+    (λ c. sum-told kV _ (c .before .before .before .fits .days) (c .before .before .add-days .ensures) (c .enum-told2 .given .1))
+    (λ c. sum-told kV _ (c .before .before .before .fits .days) (c .before .before .add-days .ensures) (c .enum-told3 .given .1)))

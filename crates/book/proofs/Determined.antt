@@ -6,8 +6,8 @@ use Prim.Native.Nat.{ℕ}
 use lib.Dec.{eqb}
 use Rattle.rules.specs.Refusals.{Answer, Gives, Refused, RefusedAt, notOfKind, badLength, badVersion}
 use Rattle.rules.proofs.ReadBack.{Determines, determined}
-use Rattle.expanded.specs.declared.Kind.{Kind}
-use Rattle.expanded.proofs.Determined.{packedOf, kindBack, kind-back}
+use Rattle.kinds.specs.declared.Kind.{Kind}
+use Rattle.kinds.proofs.Determined.{packedOf, kindBack, kind-back}
 use Rattle.book.specs.declared.Checked.the-variants as C
 use Rattle.book.specs.declared.Found.{Found}
 use Rattle.book.specs.declared.Found.the-variants as F

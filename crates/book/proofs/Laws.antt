@@ -21,9 +21,9 @@ use Rattle.rules.proofs.WriteLaws.{tail-lent, tail-back}
 use Rattle.rules.proofs.FrameLaws.{Sensible}
 use Rattle.rules.proofs.BookLaws.{entry-by, Counted, counted, checked, ends-inside, record-here, record-none, sound-here}
 use Rattle.rules.proofs.EntryLaws.{entry-for}
-use Rattle.expanded.specs.declared.Kind.{Kind}
-use Rattle.expanded.specs.declared.Packed.{Packed}
-use Rattle.expanded.specs.Views.{kindOf, bitsOf}
+use Rattle.kinds.specs.declared.Kind.{Kind}
+use Rattle.kinds.specs.declared.Packed.{Packed}
+use Rattle.kinds.specs.Views.{kindOf, bitsOf}
 use Rattle.rules.proofs.PackLaws.{handed-by, unmarked, unmarked-word}
 use Rattle.frame.specs.Views.{frameOf}
 use Rattle.book.specs.Views.{dateSize, leastSize, entrySized, bookOf, inBits, bytesOf}

@@ -6,9 +6,9 @@ use Rattle.rules.specs.Words.{bigBytes}
 use Rattle.rules.specs.Refusals.{Answer, Gives, Refused, RefusedAt, _then_, given, notOfKind, badLength, badVersion, badRecord, noRoom, noRecord}
 use Rattle.rules.specs.Kinds as K
 use Rattle.rules.specs.Book as B
-use Rattle.expanded.specs.declared.Kind.{Kind}
-use Rattle.expanded.specs.declared.Packed.{Packed}
-use Rattle.expanded.specs.Views.{kindOf, bitsOf}
+use Rattle.kinds.specs.declared.Kind.{Kind}
+use Rattle.kinds.specs.declared.Packed.{Packed}
+use Rattle.kinds.specs.Views.{kindOf, bitsOf}
 use Rattle.frame.specs.Views.{frameOf}
 use Rattle.book.specs.declared.Checked.{Checked}
 use Rattle.book.specs.declared.Checked.the-variants as C

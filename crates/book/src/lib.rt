@@ -4,12 +4,12 @@ ghost use mathlib.Core.Path.{_≡_};
 ghost use mathlib.Core.Bool.{true};
 ghost use Rattle.rules.specs.Refusals.{given};
 ghost use Rattle.rules.specs.Book.{check, appendAnswer, appendBuffer, newAnswer, newBuffer, kindCode, version1, entryAt, entryFor};
-ghost use Rattle.expanded.specs.Views.{kindOf, bitsOf};
+ghost use Rattle.kinds.specs.Views.{kindOf, bitsOf};
 ghost use Rattle.frame.specs.Views.{startedAs};
 ghost use Rattle.book.specs.Views.{inBits, checkedAs, foundAs, appendedAs};
-use expanded::Kind;
-use expanded::Packed;
 use frame::Started;
+use kinds::Kind;
+use kinds::Packed;
 
 pub mod sized;
 mod slots;
@@ -84,7 +84,7 @@ pub fn append(b: &mut [u8], kind: Kind, date: Packed) -> Appended
     ensures { λ r. ⌜ appendedAs r ≡ appendAnswer version1 (entryFor (kindCode (kindOf kind)) (bitsOf date)) (now (b .entry)) ⌝ }
     ensures { λ r. ⌜ now (b .exit) ≡ appendBuffer version1 (entryFor (kindCode (kindOf kind)) (bitsOf date)) (now (b .entry)) ⌝ }
 {
-    if expanded::is_of_kind(kind, date) {
+    if kinds::is_of_kind(kind, date) {
         let piece = slots::bytes_of(kind, date);
         return sized::append_record(b, &piece, MOST, VERSION);
     }

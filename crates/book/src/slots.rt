@@ -9,8 +9,8 @@ ghost use Rattle.rules.specs.Book.{entryOf};
 ghost use Rattle.book.specs.Views.{leastSize, entrySized, soundSized, bytesOf, slotAs, inBits};
 use crate::SIZE;
 use codes::Coded;
-use expanded::Kind;
-use expanded::Packed;
+use kinds::Kind;
+use kinds::Packed;
 
 // The bytes of a date: two of its year, two of its word.
 const DATE_SIZE: usize = 4;
@@ -36,7 +36,7 @@ fn slot_of(code: u8, y1: u8, y0: u8, w1: u8, w0: u8) -> Slot
             let year = codes::year_of_twos(join2(y1, y0));
             let word = join2(w1, w0);
             let date = Packed { year, word };
-            if expanded::is_of_kind(kind, date) {
+            if kinds::is_of_kind(kind, date) {
                 return Slot::Record { kind, date };
             }
             Slot::None

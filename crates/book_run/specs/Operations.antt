@@ -3,7 +3,7 @@ use Prim.Native.Nat.{ℕ}
 use mathlib.Core.List.{List}
 use Rattle.rules.specs.Refusals.{Answer, Gives, Refused, RefusedAt, _then_, badRecord}
 use Rattle.rules.specs.Book.{check, entryAt, appendAnswer, appendBuffer, newAnswer, newBuffer, kindCode, version1, entryFor}
-use Rattle.expanded.specs.Views.{kindOf, bitsOf}
+use Rattle.kinds.specs.Views.{kindOf, bitsOf}
 use Rattle.book.specs.Views.{Bits, inBits}
 use Rattle.book_run.specs.declared.operations.Operation.{Operation}
 use Rattle.book_run.specs.declared.operations.Operation.the-variants as O

@@ -2,8 +2,8 @@
 // that a line is read to its end, and tested once.
 use crate::operations::Operation;
 use codes::Lettered;
-use expanded::Kind;
-use expanded::Packed;
+use kinds::Kind;
+use kinds::Packed;
 
 pub(crate) enum Line {
     Remark,

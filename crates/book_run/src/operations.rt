@@ -7,9 +7,9 @@ ghost use Rattle.book_run.specs.Operations.{Done, Number, Recorded, told
 use book::Appended;
 use book::Checked;
 use book::Found;
-use expanded::Kind;
-use expanded::Packed;
 use frame::Started;
+use kinds::Kind;
+use kinds::Packed;
 
 pub(crate) enum Operation {
     New,

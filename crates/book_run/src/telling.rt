@@ -2,8 +2,8 @@
 ghost use Prim.Native.Nat.{_<_, _≤_};
 ghost use lib.ListN.{length};
 use crate::operations::Told;
-use expanded::Kind;
-use expanded::Packed;
+use kinds::Kind;
+use kinds::Packed;
 use libc::STDOUT_FILENO;
 
 // The longest buffer that is shown byte for byte.

@@ -2,7 +2,7 @@
 -- Assumes nothing.
 use mathlib.Core.Path.{refl}
 use Rattle.rules.proofs.ReadBack.{Determines, determined, backText}
-use Rattle.expanded.proofs.Determined.{packedOf}
+use Rattle.kinds.proofs.Determined.{packedOf}
 use Rattle.by_kind.specs.declared.Parsed.the-variants as P
 use Rattle.by_kind.specs.Views.{parsed}
 

@@ -1,7 +1,7 @@
 -- The answer of the code, as that of `rules`. Assumes nothing.
 use Rattle.rules.specs.Refusals.{Answer, Gives, Refused, tooLong, notText}
 use Rattle.rules.specs.Kinds.{Stored}
-use Rattle.expanded.specs.Views.{bitsOf}
+use Rattle.kinds.specs.Views.{bitsOf}
 use Rattle.by_kind.specs.declared.Parsed.{Parsed}
 use Rattle.by_kind.specs.declared.Parsed.the-variants as P
 

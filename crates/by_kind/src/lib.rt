@@ -2,13 +2,13 @@
 ghost use mathlib.Core.Path.{_≡_};
 ghost use Rattle.rules.specs.Kinds.{kR, kD, kH, kU, kE, kV, store};
 ghost use Rattle.rules.specs.Text.{readText};
-ghost use Rattle.expanded.specs.Views.{kindOf};
+ghost use Rattle.kinds.specs.Views.{kindOf};
 ghost use Rattle.by_kind.specs.Views.{parsed};
 use date::Date;
 use date_hour::DateHour;
 use eu5_date::Eu5Date;
-use expanded::Kind;
-use expanded::Packed;
+use kinds::Kind;
+use kinds::Packed;
 use raw_date::RawDate;
 use uniform_date::UniformDate;
 use vic3_date::Vic3Date;

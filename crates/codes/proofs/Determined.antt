@@ -3,7 +3,7 @@
 use mathlib.Core.Path.{_≡_, refl, ap}
 use Rattle.rules.proofs.ReadBack.{Determines, determined, backOne}
 use Rattle.rules.specs.Kinds as K
-use Rattle.expanded.proofs.Determined.{kindBack, kind-back}
+use Rattle.kinds.proofs.Determined.{kindBack, kind-back}
 use Rattle.codes.specs.declared.Lettered.the-variants as L
 use Rattle.codes.specs.declared.Coded.the-variants as C
 use Rattle.codes.specs.Views.{lettered, coded}

@@ -1,7 +1,7 @@
 -- The code's answers as those of `rules`. Assumes nothing.
 use Rattle.rules.specs.Refusals.{Answer, Gives, Refused, notOfKind, unreadableLine}
 use Rattle.rules.specs.Kinds as K
-use Rattle.expanded.specs.Views.{kindOf}
+use Rattle.kinds.specs.Views.{kindOf}
 use Rattle.codes.specs.declared.Lettered.{Lettered}
 use Rattle.codes.specs.declared.Lettered.the-variants as L
 use Rattle.codes.specs.declared.Coded.{Coded}

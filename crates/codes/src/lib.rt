@@ -3,9 +3,9 @@
 ghost use mathlib.Core.Path.{_≡_};
 ghost use Rattle.rules.specs.Listing.{letter, kindOfLetter};
 ghost use Rattle.rules.specs.Book.{kindCode, kindOfCode, twosComplement, yearOfTwos};
-ghost use Rattle.expanded.specs.Views.{kindOf};
+ghost use Rattle.kinds.specs.Views.{kindOf};
 ghost use Rattle.codes.specs.Views.{lettered, coded};
-use expanded::Kind;
+use kinds::Kind;
 
 // A kind by its letter.
 pub enum Lettered {

@@ -1,7 +1,7 @@
 -- The answers of the code, with document 01's number for each case. Assumes nothing.
 use Rattle.rules.specs.Refusals.{Answer, Gives, Refused, tooLong, notText, notNumber, notOfKind, sumOverflows, outOfRange}
 use Rattle.rules.specs.Kinds.{Stored}
-use Rattle.expanded.specs.Views.{bitsOf}
+use Rattle.kinds.specs.Views.{bitsOf}
 use Rattle.date.specs.declared.Date.{Date}
 use Rattle.date.specs.declared.Made.{Made}
 use Rattle.date.specs.declared.Made.the-variants as M

@@ -8,16 +8,16 @@ ghost use Rattle.rules.specs.Numbers.{readNumber, guessNumber, writeNumber};
 ghost use Rattle.rules.specs.Days.{addDays, difference, order};
 ghost use Rattle.rules.specs.Text.{plusAllowed, shapeAllowed, readText};
 ghost use Rattle.rules.specs.Spelling.{dotted, iso, exchange, putAnswer, putBuffer};
-ghost use Rattle.expanded.specs.Views.{ordered};
+ghost use Rattle.kinds.specs.Views.{ordered};
 ghost use Rattle.number.specs.Views.{writtenAs};
 ghost use Rattle.day_count.specs.Views.{counted};
 ghost use Rattle.formatter.specs.Views.{spelled, lengthOf};
 ghost use Rattle.date.specs.Views.{bits, made, parsed, decoded, guessed, summed};
 use day_count::Days;
-use expanded::Kind;
-use expanded::Ordered;
-use expanded::Packed;
 use formatter::Spelled;
+use kinds::Kind;
+use kinds::Ordered;
+use kinds::Packed;
 use number::Written;
 use scalar::Leading;
 
@@ -131,10 +131,10 @@ impl Date {
     pub fn from_ymd_opt(year: i16, month: u8, day: u8) -> Made
         ensures { λ r. ⌜ made r ≡ store (fromFields kD (record { year = year; month = month; day = day; hour = 0 })) ⌝ }
     {
-        let made = expanded::make(Kind::Date, year, month, day, 0);
+        let made = kinds::make(Kind::Date, year, month, day, 0);
         match made {
-            expanded::Made::Date(raw) => Made::Date(Date { raw }),
-            expanded::Made::None => Made::NotOfKind,
+            kinds::Made::Date(raw) => Made::Date(Date { raw }),
+            kinds::Made::None => Made::NotOfKind,
         }
     }
 
@@ -148,19 +148,19 @@ impl Date {
     pub fn month(self) -> u8
         ensures { λ r. ⌜ r ≡ unpacked (bits self) .month ⌝ }
     {
-        expanded::month_of(self.raw)
+        kinds::month_of(self.raw)
     }
 
     pub fn day(self) -> u8
         ensures { λ r. ⌜ r ≡ unpacked (bits self) .day ⌝ }
     {
-        expanded::day_of(self.raw)
+        kinds::day_of(self.raw)
     }
 
     pub fn hour(self) -> u8
         ensures { λ r. ⌜ r ≡ unpacked (bits self) .hour ⌝ }
     {
-        expanded::hour_of(self.raw)
+        kinds::hour_of(self.raw)
     }
 
     // The plain reader: the length, D's own rules, the leading number, the rest.
@@ -176,8 +176,8 @@ impl Date {
             };
             let made = reading::read_rest(Kind::Date, s, value, next);
             match made {
-                expanded::Made::Date(raw) => Parsed::Date(Date { raw }),
-                expanded::Made::None => Parsed::NotText,
+                kinds::Made::Date(raw) => Parsed::Date(Date { raw }),
+                kinds::Made::None => Parsed::NotText,
             }
         } else {
             Parsed::NotText
@@ -245,7 +245,7 @@ impl Date {
     pub fn compare(self, other: Date) -> Ordered
         ensures { λ r. ⌜ ordered r ≡ ofDates kD (bits self) (bits other) (λ f g. Gives (order f g)) ⌝ }
     {
-        expanded::compare(Kind::Date, self.raw, other.raw)
+        kinds::compare(Kind::Date, self.raw, other.raw)
     }
 
     // The dotted text at the front of a buffer.

@@ -8,14 +8,14 @@ ghost use Rattle.rules.specs.Numbers.{readNumber, guessNumber, writeNumber};
 ghost use Rattle.rules.specs.Days.{order};
 ghost use Rattle.rules.specs.Text.{readText};
 ghost use Rattle.rules.specs.Spelling.{dotted, iso, exchange, putAnswer, putBuffer};
-ghost use Rattle.expanded.specs.Views.{ordered};
+ghost use Rattle.kinds.specs.Views.{ordered};
 ghost use Rattle.number.specs.Views.{writtenAs};
 ghost use Rattle.formatter.specs.Views.{spelled, lengthOf};
 ghost use Rattle.date_hour.specs.Views.{bits, made, parsed, decoded, guessed};
-use expanded::Kind;
-use expanded::Ordered;
-use expanded::Packed;
 use formatter::Spelled;
+use kinds::Kind;
+use kinds::Ordered;
+use kinds::Packed;
 use number::Written;
 use scalar::Leading;
 
@@ -78,10 +78,10 @@ impl DateHour {
     pub fn from_ymdh_opt(year: i16, month: u8, day: u8, hour: u8) -> Made
         ensures { λ r. ⌜ made r ≡ store (fromFields kH (record { year = year; month = month; day = day; hour = hour })) ⌝ }
     {
-        let made = expanded::make(Kind::Hour, year, month, day, hour);
+        let made = kinds::make(Kind::Hour, year, month, day, hour);
         match made {
-            expanded::Made::Date(raw) => Made::Date(DateHour { raw }),
-            expanded::Made::None => Made::NotOfKind,
+            kinds::Made::Date(raw) => Made::Date(DateHour { raw }),
+            kinds::Made::None => Made::NotOfKind,
         }
     }
 
@@ -95,19 +95,19 @@ impl DateHour {
     pub fn month(self) -> u8
         ensures { λ r. ⌜ r ≡ unpacked (bits self) .month ⌝ }
     {
-        expanded::month_of(self.raw)
+        kinds::month_of(self.raw)
     }
 
     pub fn day(self) -> u8
         ensures { λ r. ⌜ r ≡ unpacked (bits self) .day ⌝ }
     {
-        expanded::day_of(self.raw)
+        kinds::day_of(self.raw)
     }
 
     pub fn hour(self) -> u8
         ensures { λ r. ⌜ r ≡ unpacked (bits self) .hour ⌝ }
     {
-        expanded::hour_of(self.raw)
+        kinds::hour_of(self.raw)
     }
 
     pub fn parse(s: &[u8]) -> Parsed
@@ -121,8 +121,8 @@ impl DateHour {
         };
         let made = reading::read_rest(Kind::Hour, s, value, next);
         match made {
-            expanded::Made::Date(raw) => Parsed::Date(DateHour { raw }),
-            expanded::Made::None => Parsed::NotText,
+            kinds::Made::Date(raw) => Parsed::Date(DateHour { raw }),
+            kinds::Made::None => Parsed::NotText,
         }
     }
 
@@ -157,7 +157,7 @@ impl DateHour {
     pub fn compare(self, other: DateHour) -> Ordered
         ensures { λ r. ⌜ ordered r ≡ ofDates kH (bits self) (bits other) (λ f g. Gives (order f g)) ⌝ }
     {
-        expanded::compare(Kind::Hour, self.raw, other.raw)
+        kinds::compare(Kind::Hour, self.raw, other.raw)
     }
 
     // The dotted text at the front of a buffer.

@@ -2,7 +2,7 @@
 -- Assumes nothing.
 use mathlib.Core.Path.{refl}
 use Rattle.rules.proofs.ReadBack.{Determines, determined, backOne, backSum}
-use Rattle.expanded.proofs.Determined.{packedOf}
+use Rattle.kinds.proofs.Determined.{packedOf}
 use Rattle.day_count.specs.declared.Sum.the-variants as S
 use Rattle.day_count.specs.declared.Start.the-variants as T
 use Rattle.day_count.specs.declared.Days.the-variants as D

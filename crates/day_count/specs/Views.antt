@@ -4,8 +4,8 @@ use lib.IntN.{ℤ}
 use Rattle.rules.specs.Refusals.{Answer, Gives, Refused, notOfKind, sumOverflows, outOfRange}
 use Rattle.rules.specs.Calendar.{monthLength}
 use Rattle.rules.specs.Kinds.{Stored}
-use Rattle.expanded.specs.Views.{bitsOf}
-use Rattle.expanded.specs.declared.ExpandedRawDate.{ExpandedRawDate}
+use Rattle.kinds.specs.Views.{bitsOf}
+use Rattle.kinds.specs.declared.ExpandedRawDate.{ExpandedRawDate}
 use Rattle.day_count.specs.declared.Sum.{Sum}
 use Rattle.day_count.specs.declared.Sum.the-variants as S
 use Rattle.day_count.specs.declared.Days.{Days}

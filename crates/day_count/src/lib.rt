@@ -7,13 +7,13 @@ ghost use lib.IntN.{subℕ, _+ℤ_, _-ℤ_};
 ghost use Rattle.sign.specs.Halves.{Halved};
 ghost use Rattle.rules.specs.Kinds.{stored, store, ofDate, ofDates};
 ghost use Rattle.rules.specs.Days.{dayNumberAt, dayNumber, countsDays, difference, dayFields, summed, summedHour, addDays, hasStart, startOfDay};
-ghost use Rattle.expanded.specs.Views.{kindOf, fieldsOf, bitsOf};
+ghost use Rattle.kinds.specs.Views.{kindOf, fieldsOf, bitsOf};
 ghost use Rattle.day_count.specs.Views.{summedAs, counted, started, OnCalendar};
-use expanded::ExpandedRawDate;
-use expanded::Kind;
-use expanded::NO_MARK;
-use expanded::Opened;
-use expanded::Packed;
+use kinds::ExpandedRawDate;
+use kinds::Kind;
+use kinds::NO_MARK;
+use kinds::Opened;
+use kinds::Packed;
 use sign::Halves;
 
 // A date moved by days, or why there is none.
@@ -123,7 +123,7 @@ fn date_of(up: u64, dn: u64, hour: u8) -> Packed
         day: on.day,
         hour,
     };
-    expanded::pack(NO_MARK, fields)
+    kinds::pack(NO_MARK, fields)
 }
 
 // The date of the number up - dn, with this hour, or why there is none. The range is narrower than 32 bits, so a date is
@@ -169,7 +169,7 @@ pub fn add_days(kind: Kind, date: Packed, days: i32) -> Sum
     ensures { λ r. ⌜ summedAs r ≡ store (ofDate (kindOf kind) (bitsOf date) (λ f. addDays (kindOf kind) f days)) ⌝ }
 {
     if counts_days(kind) {
-        let opened = expanded::unpack(kind, date);
+        let opened = kinds::unpack(kind, date);
         let Opened::Fields(fields) = opened else {
             return Sum::NotOfKind;
         };
@@ -198,11 +198,11 @@ pub fn days_until(kind: Kind, first: Packed, second: Packed) -> Days
     ensures { λ r. ⌜ counted r ≡ ofDates (kindOf kind) (bitsOf first) (bitsOf second) (λ f g. difference (kindOf kind) f g) ⌝ }
 {
     if counts_days(kind) {
-        let a = expanded::unpack(kind, first);
+        let a = kinds::unpack(kind, first);
         let Opened::Fields(f) = a else {
             return Days::NotOfKind;
         };
-        let b = expanded::unpack(kind, second);
+        let b = kinds::unpack(kind, second);
         let Opened::Fields(g) = b else {
             return Days::NotOfKind;
         };
@@ -217,7 +217,7 @@ pub fn start_of_day(kind: Kind, date: Packed) -> Start
     ensures { λ r. ⌜ started r ≡ store (ofDate (kindOf kind) (bitsOf date) (λ f. startOfDay (kindOf kind) f)) ⌝ }
 {
     if has_start(kind) {
-        let opened = expanded::unpack(kind, date);
+        let opened = kinds::unpack(kind, date);
         let Opened::Fields(on) = opened else {
             return Start::NotOfKind;
         };
@@ -227,7 +227,7 @@ pub fn start_of_day(kind: Kind, date: Packed) -> Start
             day: on.day,
             hour: 0,
         };
-        Start::Date(expanded::pack(NO_MARK, fields))
+        Start::Date(kinds::pack(NO_MARK, fields))
     } else {
         Start::NotOfKind
     }

@@ -2,7 +2,7 @@
 use Prim.Native.Nat.{ℕ}
 use Rattle.rules.specs.Refusals.{Answer, Gives, Refused, tooLong, notText, notNumber, notOfKind, sumOverflows, outOfRange}
 use Rattle.rules.specs.Kinds.{Stored}
-use Rattle.expanded.specs.Views.{bitsOf}
+use Rattle.kinds.specs.Views.{bitsOf}
 use Rattle.eu5_date.specs.declared.Eu5Date.{Eu5Date}
 use Rattle.eu5_date.specs.declared.Made.{Made}
 use Rattle.eu5_date.specs.declared.Made.the-variants as M

@@ -8,16 +8,16 @@ ghost use Rattle.rules.specs.Numbers.{readNumber, guessNumber};
 ghost use Rattle.rules.specs.Days.{addDays, difference, startOfDay, order};
 ghost use Rattle.rules.specs.Text.{readText};
 ghost use Rattle.rules.specs.Spelling.{dotted, iso, exchange, isoDateAlone, putAnswer, putBuffer};
-ghost use Rattle.expanded.specs.Views.{ordered};
+ghost use Rattle.kinds.specs.Views.{ordered};
 ghost use Rattle.day_count.specs.Views.{counted};
 ghost use Rattle.formatter.specs.Views.{spelled, lengthOf};
 ghost use Rattle.eu5_date.specs.Views.{bits, made, parsed, decoded, guessed, summed, started, inGame};
 use day_count::Days;
-use expanded::Kind;
-use expanded::Opened;
-use expanded::Ordered;
-use expanded::Packed;
 use formatter::Spelled;
+use kinds::Kind;
+use kinds::Opened;
+use kinds::Ordered;
+use kinds::Packed;
 use scalar::Leading;
 
 pub struct Eu5Date {
@@ -99,10 +99,10 @@ impl Eu5Date {
     pub fn from_ymd_opt(year: i16, month: u8, day: u8) -> Made
         ensures { λ r. ⌜ made r ≡ store (fromFields kE (record { year = year; month = month; day = day; hour = 0 })) ⌝ }
     {
-        let made = expanded::make(Kind::Eu5, year, month, day, 0);
+        let made = kinds::make(Kind::Eu5, year, month, day, 0);
         match made {
-            expanded::Made::Date(raw) => Made::Date(Eu5Date { raw }),
-            expanded::Made::None => Made::NotOfKind,
+            kinds::Made::Date(raw) => Made::Date(Eu5Date { raw }),
+            kinds::Made::None => Made::NotOfKind,
         }
     }
 
@@ -116,27 +116,27 @@ impl Eu5Date {
     pub fn month(self) -> u8
         ensures { λ r. ⌜ r ≡ unpacked (bits self) .month ⌝ }
     {
-        expanded::month_of(self.raw)
+        kinds::month_of(self.raw)
     }
 
     pub fn day(self) -> u8
         ensures { λ r. ⌜ r ≡ unpacked (bits self) .day ⌝ }
     {
-        expanded::day_of(self.raw)
+        kinds::day_of(self.raw)
     }
 
     // The hour component as it is stored: 0 for 08:00, 2 for 09:00, to 22 for 19:00.
     pub fn component(self) -> u8
         ensures { λ r. ⌜ r ≡ unpacked (bits self) .hour ⌝ }
     {
-        expanded::hour_of(self.raw)
+        kinds::hour_of(self.raw)
     }
 
     // The in-game hour, as jomini's `hour` gives it.
     pub fn hour(self) -> InGame
         ensures { λ r. ⌜ inGame r ≡ ofDate kE (bits self) (λ f. Gives (inGameHour (f .hour))) ⌝ }
     {
-        let opened = expanded::unpack(Kind::Eu5, self.raw);
+        let opened = kinds::unpack(Kind::Eu5, self.raw);
         match opened {
             Opened::Fields(f) => {
                 let hour = f.hour;
@@ -157,8 +157,8 @@ impl Eu5Date {
         };
         let made = reading::read_rest(Kind::Eu5, s, value, next);
         match made {
-            expanded::Made::Date(raw) => Parsed::Date(Eu5Date { raw }),
-            expanded::Made::None => Parsed::NotText,
+            kinds::Made::Date(raw) => Parsed::Date(Eu5Date { raw }),
+            kinds::Made::None => Parsed::NotText,
         }
     }
 
@@ -217,7 +217,7 @@ impl Eu5Date {
     pub fn compare(self, other: Eu5Date) -> Ordered
         ensures { λ r. ⌜ ordered r ≡ ofDates kE (bits self) (bits other) (λ f g. Gives (order f g)) ⌝ }
     {
-        expanded::compare(Kind::Eu5, self.raw, other.raw)
+        kinds::compare(Kind::Eu5, self.raw, other.raw)
     }
 
     // The dotted text at the front of a buffer.

@@ -1,7 +1,7 @@
 -- The answer is determined: two that the contract allows are equal, since its view can be read back. Assumes nothing.
 use mathlib.Core.Path.{refl}
 use Rattle.rules.proofs.ReadBack.{Determines, determined, backOne}
-use Rattle.expanded.proofs.Determined.{packedOf}
+use Rattle.kinds.proofs.Determined.{packedOf}
 use Rattle.fast_date.specs.declared.Fast.{Fast}
 use Rattle.fast_date.specs.declared.Fast.the-variants as F
 use Rattle.fast_date.specs.Fast.{Quick, Answers, Silent, quick}

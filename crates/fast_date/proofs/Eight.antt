@@ -14,8 +14,8 @@ use Rattle.util.specs.Word.{allDigits}
 use Rattle.util.specs.Parse.{parsed}
 use Rattle.util.specs.declared.Parsed.{Parsed}
 use Rattle.util.specs.declared.Parsed.the-variants.{Value, NotDigits}
-use Rattle.expanded.specs.Views.{answer}
-use Rattle.expanded.specs.declared.Made.{Made}
+use Rattle.kinds.specs.Views.{answer}
+use Rattle.kinds.specs.declared.Made.{Made}
 use Rattle.fast_date.specs.Fast.{fastShape, quickly, Quick, Answers, Silent, eight}
 
 pub parsed-some : (bs : List ℕ) (v : ℕ) → Value v ≡ parsed bs → (allDigits bs ≡ true) × (decimalValue bs ≡ v)

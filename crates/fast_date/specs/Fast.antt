@@ -11,7 +11,7 @@ use Rattle.rules.specs.Refusals.{Answer, Gives, Refused, notText}
 use Rattle.rules.specs.Kinds.{kD, Fields, Stored, settled, store}
 use Rattle.rules.specs.Text.{isDigit, decimalValue, readText}
 use Rattle.util.specs.Word.{allDigits}
-use Rattle.expanded.specs.Views.{bitsOf}
+use Rattle.kinds.specs.Views.{bitsOf}
 use Rattle.fast_date.specs.declared.Fast.{Fast}
 use Rattle.fast_date.specs.declared.Fast.the-variants as F
 

@@ -3,8 +3,8 @@ ghost use mathlib.Core.Path.{_≡_};
 ghost use lib.ListN.{length};
 ghost use Rattle.util.specs.Word.{bytesOf};
 ghost use Rattle.fast_date.specs.Fast.{quick, eight, quickly};
-use expanded::Kind;
-use expanded::Packed;
+use kinds::Kind;
+use kinds::Packed;
 
 // What the fast path answers, if it does.
 pub enum Fast {
@@ -23,10 +23,10 @@ fn fast_digits(word: u64) -> Fast
             let year = (v / 10000) as i16;
             let month = (v / 100 % 100) as u8;
             let day = (v % 100) as u8;
-            let made = expanded::settle(Kind::Date, year, month, day, 0);
+            let made = kinds::settle(Kind::Date, year, month, day, 0);
             match made {
-                expanded::Made::Date(raw) => Fast::Date(raw),
-                expanded::Made::None => Fast::NotText,
+                kinds::Made::Date(raw) => Fast::Date(raw),
+                kinds::Made::None => Fast::NotText,
             }
         }
         util::Parsed::NotDigits => Fast::Silent,

@@ -5,19 +5,19 @@ ghost use lib.ListN.{length};
 ghost use Rattle.rules.specs.Refusals.{Gives};
 ghost use Rattle.rules.specs.Kinds.{ofDate};
 ghost use Rattle.rules.specs.Spelling.{hasIsoDate, dotted, iso, exchange, isoDateAlone, putAnswer, putBuffer};
-ghost use Rattle.expanded.specs.Views.{kindOf, bitsOf};
+ghost use Rattle.kinds.specs.Views.{kindOf, bitsOf};
 ghost use Rattle.formatter.specs.Pieces.{textOf};
 ghost use Rattle.formatter.specs.Views.{spelled, lengthOf};
-use expanded::ExpandedRawDate;
-use expanded::Kind;
-use expanded::Opened;
-use expanded::Packed;
+use kinds::ExpandedRawDate;
+use kinds::Kind;
+use kinds::Opened;
+use kinds::Packed;
 use pieces::Hour;
 use pieces::Style;
 use years::Year;
 
-mod kinds;
 mod pieces;
+mod styles;
 mod years;
 
 // How many bytes were written; or why none was: the date is not of the kind, or the buffer is shorter than the text.
@@ -54,12 +54,12 @@ pub fn game_fmt(kind: Kind, date: Packed, out: &mut [u8]) -> Spelled
     ensures { λ _. ⌜ now (out .exit) ≡ putBuffer (ofDate (kindOf kind) (bitsOf date) (λ f. Gives (dotted (kindOf kind) f))) (now (out .entry)) ⌝ }
     ensures { λ r. ⌜ lengthOf r ≤ length (now (out .entry)) ⌝ }
 {
-    let opened = expanded::unpack(kind, date);
+    let opened = kinds::unpack(kind, date);
     match opened {
         Opened::Fields(f) => {
             let year = years::plain_year(f.year);
-            let hour = kinds::dotted_hour(f.hour);
-            put_text(out, year, kinds::dotted_style(kind), f.month, f.day, hour)
+            let hour = styles::dotted_hour(f.hour);
+            put_text(out, year, styles::dotted_style(kind), f.month, f.day, hour)
         }
         Opened::NotOfKind => Spelled::NotOfKind,
     }
@@ -71,12 +71,12 @@ pub fn iso_8601(kind: Kind, date: Packed, out: &mut [u8]) -> Spelled
     ensures { λ _. ⌜ now (out .exit) ≡ putBuffer (ofDate (kindOf kind) (bitsOf date) (λ f. Gives (iso (kindOf kind) f))) (now (out .entry)) ⌝ }
     ensures { λ r. ⌜ lengthOf r ≤ length (now (out .entry)) ⌝ }
 {
-    let opened = expanded::unpack(kind, date);
+    let opened = kinds::unpack(kind, date);
     match opened {
         Opened::Fields(f) => {
             let year = years::iso_year(f.year);
-            let hour = kinds::iso_hour(kind, f.hour);
-            put_text(out, year, kinds::ISO, f.month, f.day, hour)
+            let hour = styles::iso_hour(kind, f.hour);
+            put_text(out, year, styles::ISO, f.month, f.day, hour)
         }
         Opened::NotOfKind => Spelled::NotOfKind,
     }
@@ -88,12 +88,12 @@ pub fn exchange(kind: Kind, date: Packed, out: &mut [u8]) -> Spelled
     ensures { λ _. ⌜ now (out .exit) ≡ putBuffer (ofDate (kindOf kind) (bitsOf date) (λ f. Gives (exchange (kindOf kind) f))) (now (out .entry)) ⌝ }
     ensures { λ r. ⌜ lengthOf r ≤ length (now (out .entry)) ⌝ }
 {
-    let opened = expanded::unpack(kind, date);
+    let opened = kinds::unpack(kind, date);
     match opened {
         Opened::Fields(f) => {
             let year = years::exchange_year(f.year);
-            let hour = kinds::iso_hour(kind, f.hour);
-            put_text(out, year, kinds::ISO, f.month, f.day, hour)
+            let hour = styles::iso_hour(kind, f.hour);
+            put_text(out, year, styles::ISO, f.month, f.day, hour)
         }
         Opened::NotOfKind => Spelled::NotOfKind,
     }
@@ -119,12 +119,12 @@ pub fn date_fmt(kind: Kind, date: Packed, out: &mut [u8]) -> Spelled
     ensures { λ _. ⌜ now (out .exit) ≡ putBuffer (ofDate (kindOf kind) (bitsOf date) (λ f. isoDateAlone (kindOf kind) f)) (now (out .entry)) ⌝ }
     ensures { λ r. ⌜ lengthOf r ≤ length (now (out .entry)) ⌝ }
 {
-    let opened = expanded::unpack(kind, date);
+    let opened = kinds::unpack(kind, date);
     match opened {
         Opened::Fields(f) => {
             if has_iso_date(kind) {
                 let year = years::iso_year(f.year);
-                return put_text(out, year, kinds::ISO, f.month, f.day, kinds::no_hour());
+                return put_text(out, year, styles::ISO, f.month, f.day, styles::no_hour());
             }
             Spelled::NotOfKind
         }

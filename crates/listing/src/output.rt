@@ -8,12 +8,12 @@ ghost use Rattle.rules.specs.Refusals.{given};
 ghost use Rattle.rules.specs.Kinds.{unpacked, handed};
 ghost use Rattle.rules.specs.Spelling.{dotted, iso};
 ghost use Rattle.rules.specs.Listing.{refusedText, lineEnd};
-ghost use Rattle.expanded.specs.Views.{kindOf, bitsOf};
+ghost use Rattle.kinds.specs.Views.{kindOf, bitsOf};
 ghost use Rattle.digits.specs.Places.{placed};
 ghost use Rattle.listing.specs.Views.{dateLine};
-use expanded::Kind;
-use expanded::Packed;
 use formatter::Spelled;
+use kinds::Kind;
+use kinds::Packed;
 
 // The fixed word between the letter and the number of a refusal.
 pub(crate) fn put_refused(out: &mut [u8], front: u8, n: u8) -> usize

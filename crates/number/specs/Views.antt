@@ -3,7 +3,7 @@ use Prim.Native.Nat.{ℕ}
 use lib.IntN.{ℤ}
 use Rattle.rules.specs.Refusals.{Answer, Gives, Refused, notNumber, notOfKind}
 use Rattle.rules.specs.Kinds.{Fields, Stored}
-use Rattle.expanded.specs.Views.{fieldsOf, bitsOf}
+use Rattle.kinds.specs.Views.{fieldsOf, bitsOf}
 use Rattle.number.specs.declared.Numbered.{Numbered}
 use Rattle.number.specs.declared.Numbered.the-variants as N
 use Rattle.number.specs.declared.Read.{Read}

@@ -5,13 +5,13 @@ ghost use Prim.Native.Nat.{ℕ, _≤_, _<_};
 ghost use Rattle.rules.specs.Refusals.{notNumber};
 ghost use Rattle.rules.specs.Kinds.{daysIn, store, ofDate};
 ghost use Rattle.rules.specs.Numbers.{numberFields, readsNumbers, decodedHour, decoded, readNumber, guesses, guessNumber, writesNumbers, writtenHour, writeNumber};
-ghost use Rattle.expanded.specs.Views.{kindOf, fieldsOf, answer, bitsOf};
+ghost use Rattle.kinds.specs.Views.{kindOf, fieldsOf, answer, bitsOf};
 ghost use Rattle.number.specs.Views.{numbered, hourIn, readAs, guessedAs, writtenAs};
-use expanded::ExpandedRawDate;
-use expanded::Kind;
-use expanded::Made;
-use expanded::Opened;
-use expanded::Packed;
+use kinds::ExpandedRawDate;
+use kinds::Kind;
+use kinds::Made;
+use kinds::Opened;
+use kinds::Packed;
 
 mod narrow;
 
@@ -101,7 +101,7 @@ fn decode(kind: Kind, year: i16, month: u8, day: u8, hour: u8) -> Made
     requires { ⌜ (1 ≤ month) × (month ≤ 12) × (1 ≤ day) × (day ≤ daysIn (kindOf kind) month) ⌝ }
     ensures { λ r. ⌜ answer notNumber r ≡ store (decoded (kindOf kind) (record { year = year; month = month; day = day; hour = hour })) ⌝ }
 {
-    expanded::settle_day(kind, year, month, day, decoded_hour(kind, hour))
+    kinds::settle_day(kind, year, month, day, decoded_hour(kind, hour))
 }
 
 // U reads no number outside text.
@@ -250,7 +250,7 @@ pub fn to_binary(kind: Kind, date: Packed) -> Written
     ensures { λ r. ⌜ writtenAs r ≡ ofDate (kindOf kind) (bitsOf date) (λ f. writeNumber (kindOf kind) f) ⌝ }
 {
     if writes_numbers(kind) {
-        let Opened::Fields(f) = expanded::unpack(kind, date) else {
+        let Opened::Fields(f) = kinds::unpack(kind, date) else {
             return Written::NotOfKind;
         };
         let doy = julian::day_of_year(f.month, f.day);

@@ -8,8 +8,8 @@ ghost use Rattle.rules.specs.Words.{eqZ};
 ghost use Rattle.rules.specs.Refusals.{Refused, notNumber};
 ghost use Rattle.rules.specs.Kinds.{kD, kH, kE, kV};
 ghost use Rattle.rules.specs.Numbers.{guesses, guessed, guessNumber};
-ghost use Rattle.expanded.specs.Views.{kindOf};
-use expanded::Kind;
+ghost use Rattle.kinds.specs.Views.{kindOf};
+use kinds::Kind;
 
 // The number of 1 January, at its first hour, of the first year that a guess can pass: -99 for D and E, -1 for H, 1 for V.
 const YEAR_99_BEFORE: u64 = 42_932_760;

@@ -1,11 +1,11 @@
 // A date as the number that crosses, and the answers that have no value.
 ghost use mathlib.Core.Path.{_≡_};
 ghost use Rattle.rules.specs.Refusals.{Gives, Refused, notOfKind};
-ghost use Rattle.expanded.specs.Views.{bitsOf};
+ghost use Rattle.kinds.specs.Views.{bitsOf};
 ghost use Rattle.pennyquill.specs.Boundary.{dateNumber, dateIn, crossed, numberCrossed};
 use crate::PqAnswer;
 use crate::PqNumber;
-use expanded::Packed;
+use kinds::Packed;
 
 // The bits of a date, from its number; any number has some.
 pub fn date_in(date: u32) -> Packed

@@ -4,7 +4,7 @@ ghost use Rattle.rules.specs.Refusals.{notOfKind};
 ghost use Rattle.rules.specs.Kinds.{fromFields};
 ghost use Rattle.rules.specs.Numbers.{readNumber, guessNumber};
 ghost use Rattle.rules.specs.Text.{readText};
-ghost use Rattle.expanded.specs.Views.{answer};
+ghost use Rattle.kinds.specs.Views.{answer};
 ghost use Rattle.number.specs.Views.{readAs, guessedAs};
 ghost use Rattle.by_kind.specs.Views.{parsed};
 ghost use Rattle.pennyquill.specs.Boundary.{ofKindGiven, bitsCrossed, dateCrossed};
@@ -12,7 +12,7 @@ use crate::PqAnswer;
 use crate::crossing;
 use by_kind::Parsed;
 use codes::Coded;
-use expanded::Made;
+use kinds::Made;
 use number::Guess;
 use number::Read;
 
@@ -102,5 +102,5 @@ pub extern "C" fn pq_from_fields(kind: u32, year: i32, month: u32, day: u32, hou
     let Coded::Kind(kind) = codes::kind_of_code(kind) else {
         return crossing::not_of_kind();
     };
-    made_crossed(expanded::from_fields(kind, year, month, day, hour))
+    made_crossed(kinds::from_fields(kind, year, month, day, hour))
 }

@@ -3,7 +3,7 @@ ghost use mathlib.Core.Path.{_≡_};
 ghost use Rattle.rules.specs.Refusals.{Gives};
 ghost use Rattle.rules.specs.Days.{difference, addDays, startOfDay, order};
 ghost use Rattle.rules.specs.Numbers.{writeNumber};
-ghost use Rattle.expanded.specs.Views.{ordered};
+ghost use Rattle.kinds.specs.Views.{ordered};
 ghost use Rattle.number.specs.Views.{writtenAs};
 ghost use Rattle.day_count.specs.Views.{summedAs, counted, started};
 ghost use Rattle.pennyquill.specs.Boundary.{ofDateGiven, ofDatesGiven, bitsCrossed, dateCrossed, numberCrossed, orderCrossed};
@@ -14,7 +14,7 @@ use codes::Coded;
 use day_count::Days;
 use day_count::Start;
 use day_count::Sum;
-use expanded::Ordered;
+use kinds::Ordered;
 use number::Written;
 
 // ---- dates
@@ -117,5 +117,5 @@ pub extern "C" fn pq_order(kind: u32, first: u32, second: u32) -> PqNumber
     let Coded::Kind(kind) = codes::kind_of_code(kind) else {
         return crossing::no_number();
     };
-    order_crossed(expanded::compare(kind, crossing::date_in(first), crossing::date_in(second)))
+    order_crossed(kinds::compare(kind, crossing::date_in(first), crossing::date_in(second)))
 }

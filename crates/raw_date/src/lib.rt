@@ -8,13 +8,13 @@ ghost use Rattle.rules.specs.Numbers.{readNumber};
 ghost use Rattle.rules.specs.Days.{order};
 ghost use Rattle.rules.specs.Text.{readText};
 ghost use Rattle.rules.specs.Spelling.{dotted, iso, exchange, putAnswer, putBuffer};
-ghost use Rattle.expanded.specs.Views.{ordered};
+ghost use Rattle.kinds.specs.Views.{ordered};
 ghost use Rattle.formatter.specs.Views.{spelled, lengthOf};
 ghost use Rattle.raw_date.specs.Views.{bits, made, parsed, decoded};
-use expanded::Kind;
-use expanded::Ordered;
-use expanded::Packed;
 use formatter::Spelled;
+use kinds::Kind;
+use kinds::Ordered;
+use kinds::Packed;
 use scalar::Leading;
 
 pub struct RawDate {
@@ -70,10 +70,10 @@ impl RawDate {
     pub fn from_ymdh_opt(year: i16, month: u8, day: u8, hour: u8) -> Made
         ensures { λ r. ⌜ made r ≡ store (fromFields kR (record { year = year; month = month; day = day; hour = hour })) ⌝ }
     {
-        let made = expanded::make(Kind::Raw, year, month, day, hour);
+        let made = kinds::make(Kind::Raw, year, month, day, hour);
         match made {
-            expanded::Made::Date(raw) => Made::Date(RawDate { raw }),
-            expanded::Made::None => Made::NotOfKind,
+            kinds::Made::Date(raw) => Made::Date(RawDate { raw }),
+            kinds::Made::None => Made::NotOfKind,
         }
     }
 
@@ -87,19 +87,19 @@ impl RawDate {
     pub fn month(self) -> u8
         ensures { λ r. ⌜ r ≡ unpacked (bits self) .month ⌝ }
     {
-        expanded::month_of(self.raw)
+        kinds::month_of(self.raw)
     }
 
     pub fn day(self) -> u8
         ensures { λ r. ⌜ r ≡ unpacked (bits self) .day ⌝ }
     {
-        expanded::day_of(self.raw)
+        kinds::day_of(self.raw)
     }
 
     pub fn hour(self) -> u8
         ensures { λ r. ⌜ r ≡ unpacked (bits self) .hour ⌝ }
     {
-        expanded::hour_of(self.raw)
+        kinds::hour_of(self.raw)
     }
 
     pub fn parse(s: &[u8]) -> Parsed
@@ -113,8 +113,8 @@ impl RawDate {
         };
         let made = reading::read_rest(Kind::Raw, s, value, next);
         match made {
-            expanded::Made::Date(raw) => Parsed::Date(RawDate { raw }),
-            expanded::Made::None => Parsed::NotText,
+            kinds::Made::Date(raw) => Parsed::Date(RawDate { raw }),
+            kinds::Made::None => Parsed::NotText,
         }
     }
 
@@ -132,7 +132,7 @@ impl RawDate {
     pub fn compare(self, other: RawDate) -> Ordered
         ensures { λ r. ⌜ ordered r ≡ ofDates kR (bits self) (bits other) (λ f g. Gives (order f g)) ⌝ }
     {
-        expanded::compare(Kind::Raw, self.raw, other.raw)
+        kinds::compare(Kind::Raw, self.raw, other.raw)
     }
 
     // The dotted text at the front of a buffer.

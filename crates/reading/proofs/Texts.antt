@@ -24,8 +24,8 @@ use Rattle.scalar.specs.Number.{most63, leadingNumber}
 use Rattle.scalar.specs.Views.{led}
 use Rattle.scalar.specs.declared.Leading.{Leading}
 use Rattle.scalar.specs.declared.Leading.the-variants as L
-use Rattle.expanded.specs.Views.{answer}
-use Rattle.expanded.specs.declared.Made.{Made}
+use Rattle.kinds.specs.Views.{answer}
+use Rattle.kinds.specs.declared.Made.{Made}
 
 -- ---- a leading number of more than 63 bits is no year and no number text
 

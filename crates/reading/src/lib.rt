@@ -5,10 +5,10 @@ ghost use Rattle.rules.specs.Words.{fits32};
 ghost use Rattle.rules.specs.Refusals.{_then_, notText};
 ghost use Rattle.rules.specs.Kinds.{settled, store};
 ghost use Rattle.rules.specs.Text.{readsNumberTexts, numberText, dottedPart, textFields};
-ghost use Rattle.expanded.specs.Views.{kindOf, answer};
+ghost use Rattle.kinds.specs.Views.{kindOf, answer};
 use dotted::Parts;
-use expanded::Kind;
-use expanded::Made;
+use kinds::Kind;
+use kinds::Made;
 use number::Numbered;
 
 // The most bytes that a text may have.
@@ -47,7 +47,7 @@ fn number_text(kind: Kind, value: i64) -> Made
             let Numbered::Fields(f) = number::number_fields(sign::narrow32(value)) else {
                 return Made::None;
             };
-            return expanded::settle(kind, f.year, f.month, f.day, f.hour);
+            return kinds::settle(kind, f.year, f.month, f.day, f.hour);
         }
     }
     Made::None
@@ -66,7 +66,7 @@ fn dotted_text(kind: Kind, s: &[u8], value: i64, next: usize) -> Made
     if 32767 < value {
         return Made::None;
     }
-    expanded::settle(kind, sign::narrow16(value), month, day, hour)
+    kinds::settle(kind, sign::narrow16(value), month, day, hour)
 }
 
 // The date of a text whose leading number is `value`, with the rest from `next` on.

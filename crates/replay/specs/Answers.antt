@@ -9,8 +9,8 @@ use Rattle.rules.specs.Kinds.{Kind, Fields, Stored, fromFields, stored, store, 
 use Rattle.rules.specs.Numbers.{readsNumbers, readNumber, guesses, guessNumber, writesNumbers, writeNumber}
 use Rattle.rules.specs.Days.{countsDays, addDays, difference, Order, Before, Same, After, order}
 use Rattle.rules.specs.Text.{readText}
-use Rattle.expanded.specs.declared.Packed.{Packed}
-use Rattle.expanded.specs.Views.{bitsOf}
+use Rattle.kinds.specs.declared.Packed.{Packed}
+use Rattle.kinds.specs.Views.{bitsOf}
 use Rattle.replay.specs.declared.answers.Told.{Told}
 use Rattle.replay.specs.declared.answers.Told.the-variants as T
 

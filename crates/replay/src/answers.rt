@@ -1,15 +1,15 @@
 // What the kinds' own methods answer to texts, numbers and fields, and their constants, in one type.
 ghost use mathlib.Core.Path.{_≡_};
 ghost use Rattle.rules.specs.Refusals.{Gives};
-ghost use Rattle.expanded.specs.Views.{kindOf, fieldsOf, bitsOf};
+ghost use Rattle.kinds.specs.Views.{kindOf, fieldsOf, bitsOf};
 ghost use Rattle.replay.specs.Answers.{Dated, toldAs, textAnswer, numberAnswer, guessAnswer, fieldsAnswer, leastAnswer, greatestAnswer};
 use by_kind::Parsed;
 use date::Date;
 use date_hour::DateHour;
 use eu5_date::Eu5Date;
-use expanded::ExpandedRawDate;
-use expanded::Kind;
-use expanded::Packed;
+use kinds::ExpandedRawDate;
+use kinds::Kind;
+use kinds::Packed;
 use raw_date::RawDate;
 use uniform_date::UniformDate;
 use vic3_date::Vic3Date;

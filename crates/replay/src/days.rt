@@ -1,6 +1,6 @@
 // What the kinds' own methods on dates answer: additions, differences, the number of a date, the order of two.
 ghost use mathlib.Core.Path.{_≡_};
-ghost use Rattle.expanded.specs.Views.{kindOf, ordered};
+ghost use Rattle.kinds.specs.Views.{kindOf, ordered};
 ghost use Rattle.day_count.specs.Views as days;
 ghost use Rattle.number.specs.Views.{writtenAs};
 ghost use Rattle.date.specs.Views as date;
@@ -13,9 +13,9 @@ use date::Date;
 use date_hour::DateHour;
 use day_count::Days;
 use eu5_date::Eu5Date;
-use expanded::Kind;
-use expanded::Ordered;
-use expanded::Packed;
+use kinds::Kind;
+use kinds::Ordered;
+use kinds::Packed;
 use number::Written;
 use raw_date::RawDate;
 use uniform_date::UniformDate;

@@ -2,7 +2,7 @@
 // The program is given no answers. The stored output has those of the original, and the gate compares the bytes. `compare/README.md`
 // says what a row is.
 use codes::Lettered;
-use expanded::Kind;
+use kinds::Kind;
 use libc::STDIN_FILENO;
 
 mod answers;

@@ -1,9 +1,9 @@
 // The parts of a row: numbers and dates. A reader that does not find its part answers NOWHERE as the place after it, as those of `rows`
 // do, so that a row is read to its end, and tested once.
 ghost use Prim.Native.Nat.{_≤_};
-use expanded::ExpandedRawDate;
-use expanded::NO_MARK;
-use expanded::Packed;
+use kinds::ExpandedRawDate;
+use kinds::NO_MARK;
+use kinds::Packed;
 use rows::NOWHERE;
 use rows::Number;
 
@@ -86,7 +86,7 @@ pub(crate) fn date(row: &[u8], at: usize) -> ReadDate {
         hour: hour.up as u8,
     };
     ReadDate {
-        date: expanded::pack(NO_MARK, fields),
+        date: kinds::pack(NO_MARK, fields),
         next: hour.next,
     }
 }

@@ -7,7 +7,7 @@ use crate::leaves;
 use crate::leaves::LeafTold;
 use crate::parts;
 use crate::quoted;
-use expanded::Kind;
+use kinds::Kind;
 
 // What a row with the letter of a kind asks, but for the texts of a date.
 pub(crate) fn of_kind(row: &[u8], kind: Kind) -> Told {

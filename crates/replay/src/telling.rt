@@ -6,10 +6,10 @@ use crate::answers::Told;
 use crate::dates;
 use crate::leaves::LeafTold;
 use eu5_date::Eu5Date;
-use expanded::ExpandedRawDate;
-use expanded::Kind;
-use expanded::Packed;
 use formatter::Spelled;
+use kinds::ExpandedRawDate;
+use kinds::Kind;
+use kinds::Packed;
 use libc::STDOUT_FILENO;
 use sign::Halves;
 

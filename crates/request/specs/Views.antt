@@ -7,7 +7,7 @@ use lib.ListN.{drop}
 use Rattle.rules.specs.Refusals.{Answer, Gives, Refused, notText, unreadableLine}
 use Rattle.rules.specs.Kinds as K
 use Rattle.rules.specs.Listing as L
-use Rattle.expanded.specs.Views.{kindOf, bitsOf}
+use Rattle.kinds.specs.Views.{kindOf, bitsOf}
 use Rattle.request.specs.declared.Way.{Way}
 use Rattle.request.specs.declared.Way.the-variants as W
 use Rattle.request.specs.declared.Request.{Request}

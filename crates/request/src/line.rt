@@ -4,12 +4,12 @@ ghost use mathlib.Core.Bool.{true};
 ghost use Prim.Native.Nat.{_≤_};
 ghost use lib.ListN.{length};
 ghost use Rattle.rules.specs.Listing.{wayOfLetter, hasWay, readLine};
-ghost use Rattle.expanded.specs.Views.{kindOf};
+ghost use Rattle.kinds.specs.Views.{kindOf};
 ghost use Rattle.request.specs.Views.{wayOf, marked, asks, hasWayIn, restAt};
 use crate::Request;
 use crate::Way;
 use codes::Lettered;
-use expanded::Kind;
+use kinds::Kind;
 
 enum Marked {
     Way(Way),

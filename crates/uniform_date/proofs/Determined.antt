@@ -3,7 +3,7 @@
 use mathlib.Core.Path.{refl}
 use Rattle.rules.specs.Kinds.{Stored}
 use Rattle.rules.proofs.ReadBack.{Determines, determined, backOne, backText}
-use Rattle.expanded.proofs.Determined.{packedOf}
+use Rattle.kinds.proofs.Determined.{packedOf}
 use Rattle.uniform_date.specs.declared.UniformDate.{UniformDate}
 use Rattle.uniform_date.specs.declared.Made.the-variants as M
 use Rattle.uniform_date.specs.declared.Parsed.the-variants as P

@@ -7,13 +7,13 @@ ghost use Rattle.rules.specs.Kinds.{kU, unpacked, least, greatest, fromFields, 
 ghost use Rattle.rules.specs.Days.{order};
 ghost use Rattle.rules.specs.Text.{readText};
 ghost use Rattle.rules.specs.Spelling.{dotted, iso, exchange, putAnswer, putBuffer};
-ghost use Rattle.expanded.specs.Views.{ordered};
+ghost use Rattle.kinds.specs.Views.{ordered};
 ghost use Rattle.formatter.specs.Views.{spelled, lengthOf};
 ghost use Rattle.uniform_date.specs.Views.{bits, made, parsed};
-use expanded::Kind;
-use expanded::Ordered;
-use expanded::Packed;
 use formatter::Spelled;
+use kinds::Kind;
+use kinds::Ordered;
+use kinds::Packed;
 use scalar::Leading;
 
 pub struct UniformDate {
@@ -63,10 +63,10 @@ impl UniformDate {
     pub fn from_ymd_opt(year: i16, month: u8, day: u8) -> Made
         ensures { λ r. ⌜ made r ≡ store (fromFields kU (record { year = year; month = month; day = day; hour = 0 })) ⌝ }
     {
-        let made = expanded::make(Kind::Uniform, year, month, day, 0);
+        let made = kinds::make(Kind::Uniform, year, month, day, 0);
         match made {
-            expanded::Made::Date(raw) => Made::Date(UniformDate { raw }),
-            expanded::Made::None => Made::NotOfKind,
+            kinds::Made::Date(raw) => Made::Date(UniformDate { raw }),
+            kinds::Made::None => Made::NotOfKind,
         }
     }
 
@@ -80,19 +80,19 @@ impl UniformDate {
     pub fn month(self) -> u8
         ensures { λ r. ⌜ r ≡ unpacked (bits self) .month ⌝ }
     {
-        expanded::month_of(self.raw)
+        kinds::month_of(self.raw)
     }
 
     pub fn day(self) -> u8
         ensures { λ r. ⌜ r ≡ unpacked (bits self) .day ⌝ }
     {
-        expanded::day_of(self.raw)
+        kinds::day_of(self.raw)
     }
 
     pub fn hour(self) -> u8
         ensures { λ r. ⌜ r ≡ unpacked (bits self) .hour ⌝ }
     {
-        expanded::hour_of(self.raw)
+        kinds::hour_of(self.raw)
     }
 
     pub fn parse(s: &[u8]) -> Parsed
@@ -106,15 +106,15 @@ impl UniformDate {
         };
         let made = reading::read_rest(Kind::Uniform, s, value, next);
         match made {
-            expanded::Made::Date(raw) => Parsed::Date(UniformDate { raw }),
-            expanded::Made::None => Parsed::NotText,
+            kinds::Made::Date(raw) => Parsed::Date(UniformDate { raw }),
+            kinds::Made::None => Parsed::NotText,
         }
     }
 
     pub fn compare(self, other: UniformDate) -> Ordered
         ensures { λ r. ⌜ ordered r ≡ ofDates kU (bits self) (bits other) (λ f g. Gives (order f g)) ⌝ }
     {
-        expanded::compare(Kind::Uniform, self.raw, other.raw)
+        kinds::compare(Kind::Uniform, self.raw, other.raw)
     }
 
     // The dotted text at the front of a buffer.

@@ -3,7 +3,7 @@
 use mathlib.Core.Path.{refl}
 use Rattle.rules.specs.Kinds.{Stored}
 use Rattle.rules.proofs.ReadBack.{Determines, determined, backOne, backText, backSum}
-use Rattle.expanded.proofs.Determined.{packedOf}
+use Rattle.kinds.proofs.Determined.{packedOf}
 use Rattle.vic3_date.specs.declared.Vic3Date.{Vic3Date}
 use Rattle.vic3_date.specs.declared.Made.the-variants as M
 use Rattle.vic3_date.specs.declared.Parsed.the-variants as P

@@ -8,15 +8,15 @@ ghost use Rattle.rules.specs.Numbers.{readNumber, guessNumber};
 ghost use Rattle.rules.specs.Days.{addDays, difference, order};
 ghost use Rattle.rules.specs.Text.{readText};
 ghost use Rattle.rules.specs.Spelling.{dotted, iso, exchange, putAnswer, putBuffer};
-ghost use Rattle.expanded.specs.Views.{ordered};
+ghost use Rattle.kinds.specs.Views.{ordered};
 ghost use Rattle.day_count.specs.Views.{counted};
 ghost use Rattle.formatter.specs.Views.{spelled, lengthOf};
 ghost use Rattle.vic3_date.specs.Views.{bits, made, parsed, decoded, guessed, summed};
 use day_count::Days;
-use expanded::Kind;
-use expanded::Ordered;
-use expanded::Packed;
 use formatter::Spelled;
+use kinds::Kind;
+use kinds::Ordered;
+use kinds::Packed;
 use scalar::Leading;
 
 pub struct Vic3Date {
@@ -86,10 +86,10 @@ impl Vic3Date {
     pub fn from_ymdh_opt(year: i16, month: u8, day: u8, hour: u8) -> Made
         ensures { λ r. ⌜ made r ≡ store (fromFields kV (record { year = year; month = month; day = day; hour = hour })) ⌝ }
     {
-        let made = expanded::make(Kind::Vic3, year, month, day, hour);
+        let made = kinds::make(Kind::Vic3, year, month, day, hour);
         match made {
-            expanded::Made::Date(raw) => Made::Date(Vic3Date { raw }),
-            expanded::Made::None => Made::NotOfKind,
+            kinds::Made::Date(raw) => Made::Date(Vic3Date { raw }),
+            kinds::Made::None => Made::NotOfKind,
         }
     }
 
@@ -103,19 +103,19 @@ impl Vic3Date {
     pub fn month(self) -> u8
         ensures { λ r. ⌜ r ≡ unpacked (bits self) .month ⌝ }
     {
-        expanded::month_of(self.raw)
+        kinds::month_of(self.raw)
     }
 
     pub fn day(self) -> u8
         ensures { λ r. ⌜ r ≡ unpacked (bits self) .day ⌝ }
     {
-        expanded::day_of(self.raw)
+        kinds::day_of(self.raw)
     }
 
     pub fn hour(self) -> u8
         ensures { λ r. ⌜ r ≡ unpacked (bits self) .hour ⌝ }
     {
-        expanded::hour_of(self.raw)
+        kinds::hour_of(self.raw)
     }
 
     pub fn parse(s: &[u8]) -> Parsed
@@ -129,8 +129,8 @@ impl Vic3Date {
         };
         let made = reading::read_rest(Kind::Vic3, s, value, next);
         match made {
-            expanded::Made::Date(raw) => Parsed::Date(Vic3Date { raw }),
-            expanded::Made::None => Parsed::NotText,
+            kinds::Made::Date(raw) => Parsed::Date(Vic3Date { raw }),
+            kinds::Made::None => Parsed::NotText,
         }
     }
 
@@ -178,7 +178,7 @@ impl Vic3Date {
     pub fn compare(self, other: Vic3Date) -> Ordered
         ensures { λ r. ⌜ ordered r ≡ ofDates kV (bits self) (bits other) (λ f g. Gives (order f g)) ⌝ }
     {
-        expanded::compare(Kind::Vic3, self.raw, other.raw)
+        kinds::compare(Kind::Vic3, self.raw, other.raw)
     }
 
     // The dotted text at the front of a buffer.

@@ -4,7 +4,7 @@ use mir.Facts.{toZ-ofZ}
 use Rattle.rules.specs.Refusals.{Gives}
 use Rattle.rules.specs.Kinds.{handed}
 use Rattle.rules.specs.Days.{addDays}
-use Rattle.expanded.specs.Views.{kindOf, fieldsOf, bitsOf, opened}
+use Rattle.kinds.specs.Views.{kindOf, fieldsOf, bitsOf, opened}
 use Rattle.day_count.proofs.Laws.{on-calendar, hour-low}
 use Rattle.rules.proofs.PackLaws.{lacking}
 use borrow.Author.Needs.{needs}

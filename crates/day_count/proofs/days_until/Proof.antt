@@ -6,7 +6,7 @@ use Rattle.sign.proofs.Bits.{held}
 use Rattle.rules.specs.Refusals.{Gives}
 use Rattle.rules.specs.Kinds.{handed}
 use Rattle.rules.specs.Days.{countsDays, difference}
-use Rattle.expanded.specs.Views.{kindOf, fieldsOf, bitsOf, opened}
+use Rattle.kinds.specs.Views.{kindOf, fieldsOf, bitsOf, opened}
 use Rattle.day_count.proofs.Laws.{on-calendar}
 use Rattle.rules.proofs.PackLaws.{lacking}
 use borrow.Author.Needs.{needs}

@@ -7,7 +7,7 @@ use Rattle.rules.specs.Refusals.{Gives}
 use Rattle.rules.specs.Kinds.{stored, handed}
 use Rattle.rules.specs.Days.{startOfDay}
 use Rattle.rules.proofs.PackLaws.{lacking}
-use Rattle.expanded.specs.Views.{kindOf, fieldsOf, bitsOf, opened}
+use Rattle.kinds.specs.Views.{kindOf, fieldsOf, bitsOf, opened}
 use Rattle.day_count.proofs.Laws.{small-fields}
 use borrow.Author.Needs.{needs}
 use Rattle.day_count.proofs.start_of_day.Statement.{statement}

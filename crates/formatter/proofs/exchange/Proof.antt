@@ -8,7 +8,7 @@ use Rattle.sign.proofs.Bits.{held}
 use Rattle.rules.specs.Refusals.{Gives}
 use Rattle.rules.specs.Kinds.{handed}
 use Rattle.rules.specs.Spelling.{exchange}
-use Rattle.expanded.specs.Views.{kindOf, fieldsOf, opened, bitsOf}
+use Rattle.kinds.specs.Views.{kindOf, fieldsOf, opened, bitsOf}
 use Rattle.formatter.proofs.PieceLaws.{exchange-text, small}
 use Rattle.formatter.proofs.Texts.{by-text, by-refusal}
 use Rattle.formatter.proofs.exchange.Statement.{statement}

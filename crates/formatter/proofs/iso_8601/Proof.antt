@@ -8,7 +8,7 @@ use Rattle.sign.proofs.Bits.{held}
 use Rattle.rules.specs.Refusals.{Gives}
 use Rattle.rules.specs.Kinds.{handed}
 use Rattle.rules.specs.Spelling.{iso}
-use Rattle.expanded.specs.Views.{kindOf, fieldsOf, opened, bitsOf}
+use Rattle.kinds.specs.Views.{kindOf, fieldsOf, opened, bitsOf}
 use Rattle.formatter.proofs.PieceLaws.{iso-text, small}
 use Rattle.formatter.proofs.Texts.{by-text, by-refusal}
 use Rattle.formatter.proofs.iso_8601.Statement.{statement}

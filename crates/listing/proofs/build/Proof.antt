@@ -4,7 +4,7 @@ use native.Mathlib.Omega.{arith}
 use borrow.Author.Needs.{needs}
 use denote.Ref.{now}
 use lib.ListN.{length}
-use Rattle.expanded.specs.Views.{kindOf}
+use Rattle.kinds.specs.Views.{kindOf}
 use Rattle.request.specs.Views.{wayOf, asks, hasWayIn, restAt, asked, refusalIn}
 use Rattle.listing.proofs.LineTexts.{placed-as}
 use Rattle.listing.proofs.Requests.{date-output, refusal-output, unread-output}

@@ -4,7 +4,7 @@ use mathlib.Core.Path.{subst, sym, _∙_}
 use borrow.Author.Tests.{ltb-true}
 use lib.Dec.{T}
 use mir.Facts.{toZ-ofZ}
-use Rattle.expanded.specs.Views.{kindOf}
+use Rattle.kinds.specs.Views.{kindOf}
 use Rattle.number.proofs.GuessLaws.{early}
 use Rattle.number.proofs.from_binary_heuristic.Statement.{statement}
 use Rattle.number.proofs.from_binary_heuristic.Tie as tie

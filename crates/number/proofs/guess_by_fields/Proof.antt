@@ -7,7 +7,7 @@ use mir.Facts.{toZ-ofZ}
 use Rattle.sign.proofs.Bits.{held}
 use Rattle.rules.specs.Refusals.{notNumber}
 use Rattle.rules.specs.Numbers.{numberFields}
-use Rattle.expanded.specs.Views.{kindOf, fieldsOf, answer}
+use Rattle.kinds.specs.Views.{kindOf, fieldsOf, answer}
 use Rattle.number.specs.Views.{numbered, hourIn}
 use Rattle.number.proofs.Laws.{day-read, guess-reads, guess-none, guess-some}
 use Rattle.number.proofs.guess_by_fields.Statement.{statement}

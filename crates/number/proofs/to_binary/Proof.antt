@@ -5,7 +5,7 @@ use lib.IntN.{ℤ}
 use mir.Syntax.{w16, w32}
 use Rattle.sign.proofs.Bits.{held}
 use Rattle.rules.specs.Refusals.{Answer, Gives}
-use Rattle.expanded.specs.Views.{kindOf, fieldsOf, bitsOf, opened}
+use Rattle.kinds.specs.Views.{kindOf, fieldsOf, bitsOf, opened}
 use Rattle.number.proofs.Laws.{write-lacks, write-refused, write-some, calendar-day}
 use Rattle.number.proofs.to_binary.Statement.{statement}
 use Rattle.number.proofs.to_binary.Tie as tie

@@ -5,7 +5,7 @@ use mir.Syntax.{w16}
 use mir.Facts.{toZ-ofZ}
 use Rattle.sign.proofs.Bits.{held}
 use Rattle.rules.specs.Refusals.{notText}
-use Rattle.expanded.specs.Views.{kindOf}
+use Rattle.kinds.specs.Views.{kindOf}
 use Rattle.dotted.specs.Views.{parts}
 use Rattle.reading.proofs.Laws.{too-low, too-high, in-range, dotted-none, dotted-out, dotted-some}
 use Rattle.reading.proofs.dotted_text.Statement.{statement}

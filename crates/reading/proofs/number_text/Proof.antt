@@ -8,7 +8,7 @@ use mir.Facts.{toZ-ofZ}
 use Rattle.sign.proofs.Bits.{held}
 use Rattle.rules.specs.Refusals.{notText}
 use Rattle.rules.specs.Words.{fits32}
-use Rattle.expanded.specs.Views.{kindOf, fieldsOf}
+use Rattle.kinds.specs.Views.{kindOf, fieldsOf}
 use Rattle.number.specs.Views.{numbered}
 use Rattle.reading.proofs.Laws.{fits-in, number-lacks, number-out, number-none, number-some}
 use Rattle.reading.proofs.number_text.Statement.{statement}

@@ -2,7 +2,7 @@
 use borrow.Author.Needs.{needs}
 use mathlib.Core.Path.{sym, _∙_}
 use mir.Facts.{toZ-ofZ}
-use Rattle.expanded.specs.Views.{kindOf}
+use Rattle.kinds.specs.Views.{kindOf}
 use Rattle.reading.proofs.Laws.{ends, goes-on}
 use Rattle.reading.proofs.read_rest.Statement.{statement}
 use Rattle.reading.proofs.read_rest.Tie as tie

@@ -5,7 +5,7 @@ use Rattle.rules.specs.Kinds.{store}
 use Rattle.rules.specs.Text.{readText}
 use Rattle.rules.specs.Listing.{dateBy}
 use Rattle.rules.proofs.WriteLaws.{tail-lent}
-use Rattle.expanded.specs.Views.{kindOf}
+use Rattle.kinds.specs.Views.{kindOf}
 use Rattle.by_kind.specs.Views.{parsed}
 use borrow.Author.Needs.{needs}
 use Rattle.request.proofs.date_by_text.Statement.{statement}

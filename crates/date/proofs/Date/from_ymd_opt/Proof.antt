@@ -2,7 +2,7 @@
 use borrow.Author.Needs.{needs}
 use mathlib.Core.Path.{refl}
 use Rattle.rules.specs.Kinds.{kD}
-use Rattle.expanded.proofs.Laws.{made-told}
+use Rattle.kinds.proofs.Laws.{made-told}
 use Rattle.date.proofs.Date.from_ymd_opt.Statement.{statement}
 use Rattle.date.proofs.Date.from_ymd_opt.Tie as tie
 

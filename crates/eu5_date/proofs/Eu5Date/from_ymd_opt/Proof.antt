@@ -2,7 +2,7 @@
 use borrow.Author.Needs.{needs}
 use mathlib.Core.Path.{refl}
 use Rattle.rules.specs.Kinds.{kE}
-use Rattle.expanded.proofs.Laws.{made-told}
+use Rattle.kinds.proofs.Laws.{made-told}
 use Rattle.eu5_date.proofs.Eu5Date.from_ymd_opt.Statement.{statement}
 use Rattle.eu5_date.proofs.Eu5Date.from_ymd_opt.Tie as tie
 

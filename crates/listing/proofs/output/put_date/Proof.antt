@@ -9,7 +9,7 @@ use lib.ListN.{length-set, length-drop}
 use Rattle.rules.specs.Kinds.{unpacked}
 use Rattle.rules.specs.Spelling.{dotted, iso}
 use Rattle.rules.proofs.WriteLaws.{tail-lent, wrote, wrote-byte, wrote-part, wrote-length, wrote-placed}
-use Rattle.expanded.specs.Views.{kindOf, bitsOf}
+use Rattle.kinds.specs.Views.{kindOf, bitsOf}
 use Rattle.listing.proofs.output.put_date.Statement.{statement}
 use Rattle.listing.proofs.output.put_date.Tie as tie
 

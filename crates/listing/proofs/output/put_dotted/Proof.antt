@@ -3,7 +3,7 @@ use borrow.Author.Needs.{needs}
 use denote.Ref.{now}
 use Rattle.rules.specs.Spelling.{dotted}
 use Rattle.rules.proofs.LengthLaws.{text-lengths}
-use Rattle.expanded.specs.Views.{kindOf, bitsOf}
+use Rattle.kinds.specs.Views.{kindOf, bitsOf}
 use Rattle.listing.proofs.LineTexts.{fits}
 use Rattle.listing.proofs.output.put_dotted.Statement.{statement}
 use Rattle.listing.proofs.output.put_dotted.Tie as tie

@@ -2,7 +2,7 @@
 use borrow.Author.Needs.{needs}
 use mathlib.Core.Path.{refl}
 use Rattle.rules.specs.Kinds.{kR}
-use Rattle.expanded.proofs.Laws.{made-told}
+use Rattle.kinds.proofs.Laws.{made-told}
 use Rattle.raw_date.proofs.RawDate.from_ymdh_opt.Statement.{statement}
 use Rattle.raw_date.proofs.RawDate.from_ymdh_opt.Tie as tie
 

@@ -2,7 +2,7 @@
 use borrow.Author.Needs.{needs}
 use mathlib.Core.Path.{refl}
 use Rattle.rules.specs.Kinds.{kU}
-use Rattle.expanded.proofs.Laws.{made-told}
+use Rattle.kinds.proofs.Laws.{made-told}
 use Rattle.uniform_date.proofs.UniformDate.from_ymd_opt.Statement.{statement}
 use Rattle.uniform_date.proofs.UniformDate.from_ymd_opt.Tie as tie
 

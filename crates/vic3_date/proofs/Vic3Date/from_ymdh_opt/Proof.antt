@@ -2,7 +2,7 @@
 use borrow.Author.Needs.{needs}
 use mathlib.Core.Path.{refl}
 use Rattle.rules.specs.Kinds.{kV}
-use Rattle.expanded.proofs.Laws.{made-told}
+use Rattle.kinds.proofs.Laws.{made-told}
 use Rattle.vic3_date.proofs.Vic3Date.from_ymdh_opt.Statement.{statement}
 use Rattle.vic3_date.proofs.Vic3Date.from_ymdh_opt.Tie as tie
 

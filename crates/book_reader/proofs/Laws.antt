@@ -11,7 +11,7 @@ use Rattle.rules.specs.Refusals.{Answer, Gives, Refused, RefusedAt}
 use Rattle.rules.specs.Book.{check, recordAt, version1, entryAt}
 use Rattle.rules.proofs.BookLaws.{entry-by, counted, record-none, record-refused, record-bad}
 use Rattle.rules.proofs.EntryLaws.{version1-sensible}
-use Rattle.book_reader.specs.Places.{placeAfter}
+use Rattle.book_reader.specs.Places.{nextPlace}
 use Rattle.book_reader.specs.declared.BookReader.{BookReader}
 
 -- past the most records that a book can have, every place has the same answer
@@ -27,7 +27,7 @@ past-most s i j p q = inner (check version1 s) refl
     inner (Refused n) e = record-refused version1 s n i e ∙ sym (record-refused version1 s n j e)
     inner (RefusedAt n place) e = record-bad version1 s n place i e ∙ sym (record-bad version1 s n place j e)
 
-pub moved-on : (s : List ℕ) (place : ℕ) → entryAt version1 s (placeAfter place) ≡ entryAt version1 s (place + 1)
+pub moved-on : (s : List ℕ) (place : ℕ) → entryAt version1 s (nextPlace place) ≡ entryAt version1 s (place + 1)
 moved-on s place = inner (ltb place (version1 .frame .most)) refl
   where
     inner : (t : Bool) → ltb place (version1 .frame .most) ≡ t → entryAt version1 s (cond t (place + 1) place) ≡ entryAt version1 s (place + 1)

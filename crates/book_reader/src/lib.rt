@@ -3,7 +3,7 @@
 ghost use mathlib.Core.Path.{_≡_};
 ghost use Rattle.rules.specs.Book.{entryAt, version1};
 ghost use Rattle.book.specs.Views.{foundAs, inBits};
-ghost use Rattle.book_reader.specs.Places.{placeAfter};
+ghost use Rattle.book_reader.specs.Places.{nextPlace};
 use book::Found;
 
 pub struct BookReader<'a> {
@@ -27,7 +27,7 @@ pub fn next<'a>(reader: BookReader<'a>) -> Found
 
 // The place after a place. Past the last record that any book can have it stays, so that it never runs out of numbers.
 pub fn place_after(place: usize) -> usize
-    ensures { λ r. ⌜ r ≡ placeAfter place ⌝ }
+    ensures { λ r. ⌜ r ≡ nextPlace place ⌝ }
 {
     if place < book::MOST {
         return place + 1;
@@ -37,7 +37,7 @@ pub fn place_after(place: usize) -> usize
 
 // The reader of the same book, one place on.
 pub fn after<'a>(reader: BookReader<'a>) -> BookReader<'a>
-    ensures { λ r. ⌜ (r .book ≡ reader .entry .book) × (r .place ≡ placeAfter (reader .entry .place)) ⌝ }
+    ensures { λ r. ⌜ (r .book ≡ reader .entry .book) × (r .place ≡ nextPlace (reader .entry .place)) ⌝ }
 {
     BookReader {
         book: reader.book,

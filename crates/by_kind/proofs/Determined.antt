@@ -4,8 +4,8 @@ use mathlib.Core.Path.{refl}
 use Rattle.rules.proofs.ReadBack.{Determines, determined, backText}
 use Rattle.kinds.proofs.Determined.{packedOf}
 use Rattle.by_kind.specs.declared.Parsed.the-variants as P
-use Rattle.by_kind.specs.Views.{parsed}
+use Rattle.by_kind.specs.Views.{parsedAs}
 
-pub parsed-determined : Determines parsed
-parsed-determined = determined parsed (backText (λ d. P.Date (packedOf d)) P.TooLong P.NotText)
+pub parsed-determined : Determines parsedAs
+parsed-determined = determined parsedAs (backText (λ d. P.Date (packedOf d)) P.TooLong P.NotText)
     (λ r. elim r [ P.Date d ↦ refl | P.TooLong ↦ refl | P.NotText ↦ refl ])

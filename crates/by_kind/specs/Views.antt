@@ -5,7 +5,7 @@ use Rattle.kinds.specs.Views.{bitsOf}
 use Rattle.by_kind.specs.declared.Parsed.{Parsed}
 use Rattle.by_kind.specs.declared.Parsed.the-variants as P
 
-abbrev pub parsed : Parsed → Answer Stored
-parsed (P.Date p) = Gives (bitsOf p)
-parsed P.TooLong = Refused tooLong
-parsed P.NotText = Refused notText
+abbrev pub parsedAs : Parsed → Answer Stored
+parsedAs (P.Date p) = Gives (bitsOf p)
+parsedAs P.TooLong = Refused tooLong
+parsedAs P.NotText = Refused notText

@@ -3,7 +3,7 @@ ghost use mathlib.Core.Path.{_≡_};
 ghost use Rattle.rules.specs.Kinds.{kR, kD, kH, kU, kE, kV, store};
 ghost use Rattle.rules.specs.Text.{readText};
 ghost use Rattle.kinds.specs.Views.{kindOf};
-ghost use Rattle.by_kind.specs.Views.{parsed};
+ghost use Rattle.by_kind.specs.Views.{parsedAs};
 use date::Date;
 use date_hour::DateHour;
 use eu5_date::Eu5Date;
@@ -21,7 +21,7 @@ pub enum Parsed {
 }
 
 fn raw(s: &[u8]) -> Parsed
-    ensures { λ r. ⌜ parsed r ≡ store (readText kR (now (s .entry))) ⌝ }
+    ensures { λ r. ⌜ parsedAs r ≡ store (readText kR (now (s .entry))) ⌝ }
 {
     let read = RawDate::parse(s);
     match read {
@@ -35,7 +35,7 @@ fn raw(s: &[u8]) -> Parsed
 }
 
 fn date(s: &[u8]) -> Parsed
-    ensures { λ r. ⌜ parsed r ≡ store (readText kD (now (s .entry))) ⌝ }
+    ensures { λ r. ⌜ parsedAs r ≡ store (readText kD (now (s .entry))) ⌝ }
 {
     let read = Date::parse(s);
     match read {
@@ -49,7 +49,7 @@ fn date(s: &[u8]) -> Parsed
 }
 
 fn hour(s: &[u8]) -> Parsed
-    ensures { λ r. ⌜ parsed r ≡ store (readText kH (now (s .entry))) ⌝ }
+    ensures { λ r. ⌜ parsedAs r ≡ store (readText kH (now (s .entry))) ⌝ }
 {
     let read = DateHour::parse(s);
     match read {
@@ -63,7 +63,7 @@ fn hour(s: &[u8]) -> Parsed
 }
 
 fn uniform(s: &[u8]) -> Parsed
-    ensures { λ r. ⌜ parsed r ≡ store (readText kU (now (s .entry))) ⌝ }
+    ensures { λ r. ⌜ parsedAs r ≡ store (readText kU (now (s .entry))) ⌝ }
 {
     let read = UniformDate::parse(s);
     match read {
@@ -77,7 +77,7 @@ fn uniform(s: &[u8]) -> Parsed
 }
 
 fn eu5(s: &[u8]) -> Parsed
-    ensures { λ r. ⌜ parsed r ≡ store (readText kE (now (s .entry))) ⌝ }
+    ensures { λ r. ⌜ parsedAs r ≡ store (readText kE (now (s .entry))) ⌝ }
 {
     let read = Eu5Date::parse(s);
     match read {
@@ -91,7 +91,7 @@ fn eu5(s: &[u8]) -> Parsed
 }
 
 fn vic3(s: &[u8]) -> Parsed
-    ensures { λ r. ⌜ parsed r ≡ store (readText kV (now (s .entry))) ⌝ }
+    ensures { λ r. ⌜ parsedAs r ≡ store (readText kV (now (s .entry))) ⌝ }
 {
     let read = Vic3Date::parse(s);
     match read {
@@ -105,7 +105,7 @@ fn vic3(s: &[u8]) -> Parsed
 }
 
 pub fn parse(kind: Kind, s: &[u8]) -> Parsed
-    ensures { λ r. ⌜ parsed r ≡ store (readText (kindOf kind) (now (s .entry))) ⌝ }
+    ensures { λ r. ⌜ parsedAs r ≡ store (readText (kindOf kind) (now (s .entry))) ⌝ }
 {
     match kind {
         Kind::Raw => raw(s),

@@ -6,11 +6,11 @@ use Rattle.rules.specs.Kinds as K
 use Rattle.kinds.proofs.Determined.{kindBack, kind-back}
 use Rattle.codes.specs.declared.Lettered.the-variants as L
 use Rattle.codes.specs.declared.Coded.the-variants as C
-use Rattle.codes.specs.Views.{lettered, coded}
+use Rattle.codes.specs.Views.{letteredAs, codedAs}
 
-pub lettered-determined : Determines lettered
+pub lettered-determined : Determines letteredAs
 lettered-determined =
-    determined lettered (backOne (λ (k : K.Kind). L.Kind (kindBack k)) L.None) (λ r. elim r [ L.Kind k ↦ ap L.Kind (kind-back k) | L.None ↦ refl ])
+    determined letteredAs (backOne (λ (k : K.Kind). L.Kind (kindBack k)) L.None) (λ r. elim r [ L.Kind k ↦ ap L.Kind (kind-back k) | L.None ↦ refl ])
 
-pub coded-determined : Determines coded
-coded-determined = determined coded (backOne (λ (k : K.Kind). C.Kind (kindBack k)) C.None) (λ r. elim r [ C.Kind k ↦ ap C.Kind (kind-back k) | C.None ↦ refl ])
+pub coded-determined : Determines codedAs
+coded-determined = determined codedAs (backOne (λ (k : K.Kind). C.Kind (kindBack k)) C.None) (λ r. elim r [ C.Kind k ↦ ap C.Kind (kind-back k) | C.None ↦ refl ])

@@ -8,10 +8,10 @@ use Rattle.codes.specs.declared.Coded.{Coded}
 use Rattle.codes.specs.declared.Coded.the-variants as C
 
 -- a byte that is no kind's letter makes its line unreadable
-abbrev pub lettered : Lettered → Answer K.Kind
-lettered (L.Kind k) = Gives (kindOf k)
-lettered L.None = Refused unreadableLine
+abbrev pub letteredAs : Lettered → Answer K.Kind
+letteredAs (L.Kind k) = Gives (kindOf k)
+letteredAs L.None = Refused unreadableLine
 
-abbrev pub coded : Coded → Answer K.Kind
-coded (C.Kind k) = Gives (kindOf k)
-coded C.None = Refused notOfKind
+abbrev pub codedAs : Coded → Answer K.Kind
+codedAs (C.Kind k) = Gives (kindOf k)
+codedAs C.None = Refused notOfKind

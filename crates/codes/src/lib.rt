@@ -4,7 +4,7 @@ ghost use mathlib.Core.Path.{_≡_};
 ghost use Rattle.rules.specs.Listing.{letter, kindOfLetter};
 ghost use Rattle.rules.specs.Book.{kindCode, kindOfCode, twosComplement, yearOfTwos};
 ghost use Rattle.kinds.specs.Views.{kindOf};
-ghost use Rattle.codes.specs.Views.{lettered, coded};
+ghost use Rattle.codes.specs.Views.{letteredAs, codedAs};
 use kinds::Kind;
 
 // A kind by its letter.
@@ -33,7 +33,7 @@ pub fn letter(kind: Kind) -> u8
 }
 
 pub fn kind_of_letter(b: u8) -> Lettered
-    ensures { λ r. ⌜ lettered r ≡ kindOfLetter b ⌝ }
+    ensures { λ r. ⌜ letteredAs r ≡ kindOfLetter b ⌝ }
 {
     match b {
         b'R' => Lettered::Kind(Kind::Raw),
@@ -61,7 +61,7 @@ pub fn kind_code(kind: Kind) -> u8
 
 // The whole number is looked at: 258 is no kind's code, though its low byte is one.
 pub fn kind_of_code(code: u32) -> Coded
-    ensures { λ r. ⌜ coded r ≡ kindOfCode code ⌝ }
+    ensures { λ r. ⌜ codedAs r ≡ kindOfCode code ⌝ }
 {
     match code {
         1 => Coded::Kind(Kind::Raw),

@@ -10,7 +10,7 @@ use Rattle.date.specs.declared.Parsed.the-variants as P
 use Rattle.date.specs.declared.Decoded.the-variants as D
 use Rattle.date.specs.declared.Guessed.the-variants as G
 use Rattle.date.specs.declared.Summed.the-variants as S
-use Rattle.date.specs.Views.{bits, made, parsed, decoded, guessed, summed}
+use Rattle.date.specs.Views.{bits, madeAs, parsedAs, decodedAs, guessedAs, summedAs}
 
 abbrev dated : Stored → Date
 dated d = record { raw = packedOf d }
@@ -18,19 +18,19 @@ dated d = record { raw = packedOf d }
 pub bits-determined : Determines bits
 bits-determined = determined bits dated (λ d. refl)
 
-pub made-determined : Determines made
-made-determined = determined made (backOne (λ d. M.Date (dated d)) M.NotOfKind) (λ r. elim r [ M.Date d ↦ refl | M.NotOfKind ↦ refl ])
+pub made-determined : Determines madeAs
+made-determined = determined madeAs (backOne (λ d. M.Date (dated d)) M.NotOfKind) (λ r. elim r [ M.Date d ↦ refl | M.NotOfKind ↦ refl ])
 
-pub parsed-determined : Determines parsed
-parsed-determined = determined parsed (backText (λ d. P.Date (dated d)) P.TooLong P.NotText)
+pub parsed-determined : Determines parsedAs
+parsed-determined = determined parsedAs (backText (λ d. P.Date (dated d)) P.TooLong P.NotText)
     (λ r. elim r [ P.Date d ↦ refl | P.TooLong ↦ refl | P.NotText ↦ refl ])
 
-pub decoded-determined : Determines decoded
-decoded-determined = determined decoded (backOne (λ d. D.Date (dated d)) D.NotNumber) (λ r. elim r [ D.Date d ↦ refl | D.NotNumber ↦ refl ])
+pub decoded-determined : Determines decodedAs
+decoded-determined = determined decodedAs (backOne (λ d. D.Date (dated d)) D.NotNumber) (λ r. elim r [ D.Date d ↦ refl | D.NotNumber ↦ refl ])
 
-pub guessed-determined : Determines guessed
-guessed-determined = determined guessed (backOne (λ d. G.Date (dated d)) G.NotNumber) (λ r. elim r [ G.Date d ↦ refl | G.NotNumber ↦ refl ])
+pub guessed-determined : Determines guessedAs
+guessed-determined = determined guessedAs (backOne (λ d. G.Date (dated d)) G.NotNumber) (λ r. elim r [ G.Date d ↦ refl | G.NotNumber ↦ refl ])
 
-pub summed-determined : Determines summed
-summed-determined = determined summed (backSum (λ d. S.Date (dated d)) S.NotOfKind S.Overflow S.OutOfRange)
+pub summed-determined : Determines summedAs
+summed-determined = determined summedAs (backSum (λ d. S.Date (dated d)) S.NotOfKind S.Overflow S.OutOfRange)
     (λ r. elim r [ S.Date d ↦ refl | S.NotOfKind ↦ refl | S.Overflow ↦ refl | S.OutOfRange ↦ refl ])

@@ -8,11 +8,11 @@ ghost use Rattle.rules.specs.Numbers.{readNumber, guessNumber, writeNumber};
 ghost use Rattle.rules.specs.Days.{addDays, difference, order};
 ghost use Rattle.rules.specs.Text.{plusAllowed, shapeAllowed, readText};
 ghost use Rattle.rules.specs.Spelling.{dotted, iso, exchange, putAnswer, putBuffer};
-ghost use Rattle.kinds.specs.Views.{ordered};
+ghost use Rattle.kinds.specs.Views.{orderedAs};
 ghost use Rattle.number.specs.Views.{writtenAs};
-ghost use Rattle.day_count.specs.Views.{counted};
-ghost use Rattle.formatter.specs.Views.{spelled, lengthOf};
-ghost use Rattle.date.specs.Views.{bits, made, parsed, decoded, guessed, summed};
+ghost use Rattle.day_count.specs.Views.{countedAs};
+ghost use Rattle.formatter.specs.Views.{spelledAs, lengthOf};
+ghost use Rattle.date.specs.Views.{bits, madeAs, parsedAs, decodedAs, guessedAs, summedAs};
 use day_count::Days;
 use formatter::Spelled;
 use kinds::Kind;
@@ -129,7 +129,7 @@ impl Date {
     }
 
     pub fn from_ymd_opt(year: i16, month: u8, day: u8) -> Made
-        ensures { λ r. ⌜ made r ≡ store (fromFields kD (record { year = year; month = month; day = day; hour = 0 })) ⌝ }
+        ensures { λ r. ⌜ madeAs r ≡ store (fromFields kD (record { year = year; month = month; day = day; hour = 0 })) ⌝ }
     {
         let made = kinds::make(Kind::Date, year, month, day, 0);
         match made {
@@ -165,7 +165,7 @@ impl Date {
 
     // The plain reader: the length, D's own rules, the leading number, the rest.
     fn plain(s: &[u8]) -> Parsed
-        ensures { λ r. ⌜ parsed r ≡ store (readText kD (now (s .entry))) ⌝ }
+        ensures { λ r. ⌜ parsedAs r ≡ store (readText kD (now (s .entry))) ⌝ }
     {
         if reading::TEXT_LIMIT < s.len() {
             return Parsed::TooLong;
@@ -185,7 +185,7 @@ impl Date {
     }
 
     pub fn parse(s: &[u8]) -> Parsed
-        ensures { λ r. ⌜ parsed r ≡ store (readText kD (now (s .entry))) ⌝ }
+        ensures { λ r. ⌜ parsedAs r ≡ store (readText kD (now (s .entry))) ⌝ }
     {
         let fast = fast_date::fast_parse(s);
         match fast {
@@ -197,7 +197,7 @@ impl Date {
 
     // For a field that is declared as a date.
     pub fn from_binary(s: i32) -> Decoded
-        ensures { λ r. ⌜ decoded r ≡ store (readNumber kD s) ⌝ }
+        ensures { λ r. ⌜ decodedAs r ≡ store (readNumber kD s) ⌝ }
     {
         let read = number::from_binary(Kind::Date, s);
         match read {
@@ -208,7 +208,7 @@ impl Date {
 
     // For a number that no one declared.
     pub fn from_binary_heuristic(s: i32) -> Guessed
-        ensures { λ r. ⌜ guessed r ≡ store (guessNumber kD s) ⌝ }
+        ensures { λ r. ⌜ guessedAs r ≡ store (guessNumber kD s) ⌝ }
     {
         let guess = number::from_binary_heuristic(Kind::Date, s);
         match guess {
@@ -225,7 +225,7 @@ impl Date {
 
     // A new date; the old one stays.
     pub fn add_days(self, days: i32) -> Summed
-        ensures { λ r. ⌜ summed r ≡ store (ofDate kD (bits self) (λ f. addDays kD f days)) ⌝ }
+        ensures { λ r. ⌜ summedAs r ≡ store (ofDate kD (bits self) (λ f. addDays kD f days)) ⌝ }
     {
         let sum = day_count::add_days(Kind::Date, self.raw, days);
         match sum {
@@ -237,20 +237,20 @@ impl Date {
     }
 
     pub fn days_until(self, other: Date) -> Days
-        ensures { λ r. ⌜ counted r ≡ ofDates kD (bits self) (bits other) (λ f g. difference kD f g) ⌝ }
+        ensures { λ r. ⌜ countedAs r ≡ ofDates kD (bits self) (bits other) (λ f g. difference kD f g) ⌝ }
     {
         day_count::days_until(Kind::Date, self.raw, other.raw)
     }
 
     pub fn compare(self, other: Date) -> Ordered
-        ensures { λ r. ⌜ ordered r ≡ ofDates kD (bits self) (bits other) (λ f g. Gives (order f g)) ⌝ }
+        ensures { λ r. ⌜ orderedAs r ≡ ofDates kD (bits self) (bits other) (λ f g. Gives (order f g)) ⌝ }
     {
         kinds::compare(Kind::Date, self.raw, other.raw)
     }
 
     // The dotted text at the front of a buffer.
     pub fn game_fmt(self, out: &mut [u8]) -> Spelled
-        ensures { λ r. ⌜ spelled r ≡ putAnswer (ofDate kD (bits self) (λ f. Gives (dotted kD f))) (now (out .entry)) ⌝ }
+        ensures { λ r. ⌜ spelledAs r ≡ putAnswer (ofDate kD (bits self) (λ f. Gives (dotted kD f))) (now (out .entry)) ⌝ }
         ensures { λ _. ⌜ now (out .exit) ≡ putBuffer (ofDate kD (bits self) (λ f. Gives (dotted kD f))) (now (out .entry)) ⌝ }
         ensures { λ r. ⌜ lengthOf r ≤ length (now (out .entry)) ⌝ }
     {
@@ -259,7 +259,7 @@ impl Date {
 
     // The ISO text.
     pub fn iso_8601(self, out: &mut [u8]) -> Spelled
-        ensures { λ r. ⌜ spelled r ≡ putAnswer (ofDate kD (bits self) (λ f. Gives (iso kD f))) (now (out .entry)) ⌝ }
+        ensures { λ r. ⌜ spelledAs r ≡ putAnswer (ofDate kD (bits self) (λ f. Gives (iso kD f))) (now (out .entry)) ⌝ }
         ensures { λ _. ⌜ now (out .exit) ≡ putBuffer (ofDate kD (bits self) (λ f. Gives (iso kD f))) (now (out .entry)) ⌝ }
         ensures { λ r. ⌜ lengthOf r ≤ length (now (out .entry)) ⌝ }
     {
@@ -268,7 +268,7 @@ impl Date {
 
     // The exchange text.
     pub fn exchange(self, out: &mut [u8]) -> Spelled
-        ensures { λ r. ⌜ spelled r ≡ putAnswer (ofDate kD (bits self) (λ f. Gives (exchange kD f))) (now (out .entry)) ⌝ }
+        ensures { λ r. ⌜ spelledAs r ≡ putAnswer (ofDate kD (bits self) (λ f. Gives (exchange kD f))) (now (out .entry)) ⌝ }
         ensures { λ _. ⌜ now (out .exit) ≡ putBuffer (ofDate kD (bits self) (λ f. Gives (exchange kD f))) (now (out .entry)) ⌝ }
         ensures { λ r. ⌜ lengthOf r ≤ length (now (out .entry)) ⌝ }
     {

@@ -8,10 +8,10 @@ ghost use Rattle.rules.specs.Numbers.{readNumber, guessNumber, writeNumber};
 ghost use Rattle.rules.specs.Days.{order};
 ghost use Rattle.rules.specs.Text.{readText};
 ghost use Rattle.rules.specs.Spelling.{dotted, iso, exchange, putAnswer, putBuffer};
-ghost use Rattle.kinds.specs.Views.{ordered};
+ghost use Rattle.kinds.specs.Views.{orderedAs};
 ghost use Rattle.number.specs.Views.{writtenAs};
-ghost use Rattle.formatter.specs.Views.{spelled, lengthOf};
-ghost use Rattle.date_hour.specs.Views.{bits, made, parsed, decoded, guessed};
+ghost use Rattle.formatter.specs.Views.{spelledAs, lengthOf};
+ghost use Rattle.date_hour.specs.Views.{bits, madeAs, parsedAs, decodedAs, guessedAs};
 use formatter::Spelled;
 use kinds::Kind;
 use kinds::Ordered;
@@ -76,7 +76,7 @@ impl DateHour {
     }
 
     pub fn from_ymdh_opt(year: i16, month: u8, day: u8, hour: u8) -> Made
-        ensures { λ r. ⌜ made r ≡ store (fromFields kH (record { year = year; month = month; day = day; hour = hour })) ⌝ }
+        ensures { λ r. ⌜ madeAs r ≡ store (fromFields kH (record { year = year; month = month; day = day; hour = hour })) ⌝ }
     {
         let made = kinds::make(Kind::Hour, year, month, day, hour);
         match made {
@@ -111,7 +111,7 @@ impl DateHour {
     }
 
     pub fn parse(s: &[u8]) -> Parsed
-        ensures { λ r. ⌜ parsed r ≡ store (readText kH (now (s .entry))) ⌝ }
+        ensures { λ r. ⌜ parsedAs r ≡ store (readText kH (now (s .entry))) ⌝ }
     {
         if reading::TEXT_LIMIT < s.len() {
             return Parsed::TooLong;
@@ -128,7 +128,7 @@ impl DateHour {
 
     // For a field that is declared as a date.
     pub fn from_binary(s: i32) -> Decoded
-        ensures { λ r. ⌜ decoded r ≡ store (readNumber kH s) ⌝ }
+        ensures { λ r. ⌜ decodedAs r ≡ store (readNumber kH s) ⌝ }
     {
         let read = number::from_binary(Kind::Hour, s);
         match read {
@@ -139,7 +139,7 @@ impl DateHour {
 
     // For a number that no one declared.
     pub fn from_binary_heuristic(s: i32) -> Guessed
-        ensures { λ r. ⌜ guessed r ≡ store (guessNumber kH s) ⌝ }
+        ensures { λ r. ⌜ guessedAs r ≡ store (guessNumber kH s) ⌝ }
     {
         let guess = number::from_binary_heuristic(Kind::Hour, s);
         match guess {
@@ -155,14 +155,14 @@ impl DateHour {
     }
 
     pub fn compare(self, other: DateHour) -> Ordered
-        ensures { λ r. ⌜ ordered r ≡ ofDates kH (bits self) (bits other) (λ f g. Gives (order f g)) ⌝ }
+        ensures { λ r. ⌜ orderedAs r ≡ ofDates kH (bits self) (bits other) (λ f g. Gives (order f g)) ⌝ }
     {
         kinds::compare(Kind::Hour, self.raw, other.raw)
     }
 
     // The dotted text at the front of a buffer.
     pub fn game_fmt(self, out: &mut [u8]) -> Spelled
-        ensures { λ r. ⌜ spelled r ≡ putAnswer (ofDate kH (bits self) (λ f. Gives (dotted kH f))) (now (out .entry)) ⌝ }
+        ensures { λ r. ⌜ spelledAs r ≡ putAnswer (ofDate kH (bits self) (λ f. Gives (dotted kH f))) (now (out .entry)) ⌝ }
         ensures { λ _. ⌜ now (out .exit) ≡ putBuffer (ofDate kH (bits self) (λ f. Gives (dotted kH f))) (now (out .entry)) ⌝ }
         ensures { λ r. ⌜ lengthOf r ≤ length (now (out .entry)) ⌝ }
     {
@@ -171,7 +171,7 @@ impl DateHour {
 
     // The ISO text.
     pub fn iso_8601(self, out: &mut [u8]) -> Spelled
-        ensures { λ r. ⌜ spelled r ≡ putAnswer (ofDate kH (bits self) (λ f. Gives (iso kH f))) (now (out .entry)) ⌝ }
+        ensures { λ r. ⌜ spelledAs r ≡ putAnswer (ofDate kH (bits self) (λ f. Gives (iso kH f))) (now (out .entry)) ⌝ }
         ensures { λ _. ⌜ now (out .exit) ≡ putBuffer (ofDate kH (bits self) (λ f. Gives (iso kH f))) (now (out .entry)) ⌝ }
         ensures { λ r. ⌜ lengthOf r ≤ length (now (out .entry)) ⌝ }
     {
@@ -180,7 +180,7 @@ impl DateHour {
 
     // The exchange text.
     pub fn exchange(self, out: &mut [u8]) -> Spelled
-        ensures { λ r. ⌜ spelled r ≡ putAnswer (ofDate kH (bits self) (λ f. Gives (exchange kH f))) (now (out .entry)) ⌝ }
+        ensures { λ r. ⌜ spelledAs r ≡ putAnswer (ofDate kH (bits self) (λ f. Gives (exchange kH f))) (now (out .entry)) ⌝ }
         ensures { λ _. ⌜ now (out .exit) ≡ putBuffer (ofDate kH (bits self) (λ f. Gives (exchange kH f))) (now (out .entry)) ⌝ }
         ensures { λ r. ⌜ lengthOf r ≤ length (now (out .entry)) ⌝ }
     {

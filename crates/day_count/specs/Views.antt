@@ -19,13 +19,13 @@ summedAs S.NotOfKind = Refused notOfKind
 summedAs S.Overflow = Refused sumOverflows
 summedAs S.OutOfRange = Refused outOfRange
 
-abbrev pub counted : Days → Answer ℤ
-counted (D.Days n) = Gives n
-counted D.NotOfKind = Refused notOfKind
+abbrev pub countedAs : Days → Answer ℤ
+countedAs (D.Days n) = Gives n
+countedAs D.NotOfKind = Refused notOfKind
 
-abbrev pub started : Start → Answer Stored
-started (B.Date p) = Gives (bitsOf p)
-started B.NotOfKind = Refused notOfKind
+abbrev pub startAs : Start → Answer Stored
+startAs (B.Date p) = Gives (bitsOf p)
+startAs B.NotOfKind = Refused notOfKind
 
 -- a day of its month: every date of a kind that counts days is on one
 abbrev pub OnCalendar : ExpandedRawDate → Type 0

@@ -8,7 +8,7 @@ ghost use Rattle.sign.specs.Halves.{Halved};
 ghost use Rattle.rules.specs.Kinds.{stored, store, ofDate, ofDates};
 ghost use Rattle.rules.specs.Days.{dayNumberAt, dayNumber, countsDays, difference, dayFields, summed, summedHour, addDays, hasStart, startOfDay};
 ghost use Rattle.kinds.specs.Views.{kindOf, fieldsOf, bitsOf};
-ghost use Rattle.day_count.specs.Views.{summedAs, counted, started, OnCalendar};
+ghost use Rattle.day_count.specs.Views.{summedAs, countedAs, startAs, OnCalendar};
 use kinds::ExpandedRawDate;
 use kinds::Kind;
 use kinds::NO_MARK;
@@ -195,7 +195,7 @@ fn between(first: ExpandedRawDate, second: ExpandedRawDate) -> i32
 
 // The days from the first date to the second, whatever their hours.
 pub fn days_until(kind: Kind, first: Packed, second: Packed) -> Days
-    ensures { λ r. ⌜ counted r ≡ ofDates (kindOf kind) (bitsOf first) (bitsOf second) (λ f g. difference (kindOf kind) f g) ⌝ }
+    ensures { λ r. ⌜ countedAs r ≡ ofDates (kindOf kind) (bitsOf first) (bitsOf second) (λ f g. difference (kindOf kind) f g) ⌝ }
 {
     if counts_days(kind) {
         let a = kinds::unpack(kind, first);
@@ -214,7 +214,7 @@ pub fn days_until(kind: Kind, first: Packed, second: Packed) -> Days
 
 // The same date with hour 0.
 pub fn start_of_day(kind: Kind, date: Packed) -> Start
-    ensures { λ r. ⌜ started r ≡ store (ofDate (kindOf kind) (bitsOf date) (λ f. startOfDay (kindOf kind) f)) ⌝ }
+    ensures { λ r. ⌜ startAs r ≡ store (ofDate (kindOf kind) (bitsOf date) (λ f. startOfDay (kindOf kind) f)) ⌝ }
 {
     if has_start(kind) {
         let opened = kinds::unpack(kind, date);

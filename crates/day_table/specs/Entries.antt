@@ -10,5 +10,5 @@ abbrev pub fourAt : List ℕ → ℕ → ℕ
 fourAt t a = getD t a 0 + getD t (a + 1) 0 * 65536 + (getD t (a + 2) 0 + getD t (a + 3) 0 * 65536) * 4294967296
 
 -- the entries from 4 * k on: four, or the last one
-abbrev pub wordOf : List ℕ → ℕ → ℕ
-wordOf t k = cond (leb k 90) (fourAt t (k * 4)) (getD t 364 0)
+abbrev pub fourFrom : List ℕ → ℕ → ℕ
+fourFrom t k = cond (leb k 90) (fourAt t (k * 4)) (getD t 364 0)

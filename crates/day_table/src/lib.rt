@@ -5,7 +5,7 @@ ghost use mathlib.Core.Path.{_≡_};
 ghost use Prim.Native.Nat.{_+_, _*_, _≤_, _<_};
 ghost use lib.ListN.{getD};
 ghost use Rattle.rules.specs.Calendar.{monthDay};
-ghost use Rattle.day_table.specs.Entries.{fourAt, wordOf};
+ghost use Rattle.day_table.specs.Entries.{fourAt, fourFrom};
 
 mod table;
 
@@ -29,7 +29,7 @@ fn last(t: &[u16; 365]) -> u64
 // The word of the entries from 4 * k on.
 fn word(t: &[u16; 365], k: u16) -> u64
     requires { ⌜ k < 92 ⌝ }
-    ensures { λ r. ⌜ r ≡ wordOf (now (t .entry)) k ⌝ }
+    ensures { λ r. ⌜ r ≡ fourFrom (now (t .entry)) k ⌝ }
 {
     match k {
         0 => four(t, 0),

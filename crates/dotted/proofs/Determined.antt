@@ -4,12 +4,12 @@ use lib.IntN.{ℤ, pos}
 use Rattle.rules.specs.Kinds.{Fields}
 use Rattle.rules.proofs.ReadBack.{Determines, DeterminesEach, determined, determined-at, backOne}
 use Rattle.dotted.specs.declared.Parts.the-variants as P
-use Rattle.dotted.specs.Views.{parts}
+use Rattle.dotted.specs.Views.{partsAs}
 
-parts-of-year : (y : ℤ) → Determines (parts y)
+parts-of-year : (y : ℤ) → Determines (partsAs y)
 parts-of-year y =
-    determined (parts y) (backOne (λ (f : Fields). P.Fields (f .month) (f .day) (f .hour)) P.NotText)
+    determined (partsAs y) (backOne (λ (f : Fields). P.Fields (f .month) (f .day) (f .hour)) P.NotText)
     (λ r. elim r [ P.Fields month day hour ↦ refl | P.NotText ↦ refl ])
 
-pub parts-determined : DeterminesEach parts
-parts-determined = determined-at parts (pos 0) (parts-of-year (pos 0))
+pub parts-determined : DeterminesEach partsAs
+parts-determined = determined-at partsAs (pos 0) (parts-of-year (pos 0))

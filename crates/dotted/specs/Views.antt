@@ -14,15 +14,15 @@ use Rattle.dotted.specs.declared.Parts.{Parts}
 use Rattle.dotted.specs.declared.Parts.the-variants as P
 
 -- a number, and what follows it in the text s
-abbrev pub seen : List ℕ → Taken → Answer (Read ℕ)
-seen s (T.Value value next) = Gives (record { value = value; rest = drop next s })
-seen s T.Nothing = Refused notText
+abbrev pub takenAs : List ℕ → Taken → Answer (Read ℕ)
+takenAs s (T.Value value next) = Gives (record { value = value; rest = drop next s })
+takenAs s T.Nothing = Refused notText
 
-abbrev pub hourOf : Hour → Answer ℕ
-hourOf (H.Value hour) = Gives hour
-hourOf H.NotText = Refused notText
+abbrev pub hourAs : Hour → Answer ℕ
+hourAs (H.Value hour) = Gives hour
+hourAs H.NotText = Refused notText
 
 -- fields of the year y
-abbrev pub parts : ℤ → Parts → Answer Fields
-parts y (P.Fields month day hour) = Gives (record { year = y; month = month; day = day; hour = hour })
-parts y P.NotText = Refused notText
+abbrev pub partsAs : ℤ → Parts → Answer Fields
+partsAs y (P.Fields month day hour) = Gives (record { year = y; month = month; day = day; hour = hour })
+partsAs y P.NotText = Refused notText

@@ -8,7 +8,7 @@ ghost use lib.ListN.{drop};
 ghost use Rattle.rules.specs.Words.{byte};
 ghost use Rattle.rules.specs.Refusals.{Gives, _then_};
 ghost use Rattle.rules.specs.Text.{secondDigit, oneOrTwo, afterDot, hourAfter, dottedPart};
-ghost use Rattle.dotted.specs.Views.{seen, hourOf, parts};
+ghost use Rattle.dotted.specs.Views.{takenAs, hourAs, partsAs};
 
 // A number of one or two digits, and the place of what follows it.
 enum Taken {
@@ -31,7 +31,7 @@ pub enum Parts {
 // After a first digit: a second, or none.
 fn second_digit(s: &[u8], at: usize, first: u8) -> Taken
     requires { ⌜ first ≤ 9 ⌝ }
-    ensures { λ r. ⌜ seen (now (s .entry)) r ≡ Gives (secondDigit first (drop at (now (s .entry)))) ⌝ }
+    ensures { λ r. ⌜ takenAs (now (s .entry)) r ≡ Gives (secondDigit first (drop at (now (s .entry)))) ⌝ }
 {
     if s.len() <= at {
         return Taken::Value {
@@ -60,7 +60,7 @@ fn second_digit(s: &[u8], at: usize, first: u8) -> Taken
 
 // One or two digits.
 fn one_or_two(s: &[u8], at: usize) -> Taken
-    ensures { λ r. ⌜ seen (now (s .entry)) r ≡ oneOrTwo (drop at (now (s .entry))) ⌝ }
+    ensures { λ r. ⌜ takenAs (now (s .entry)) r ≡ oneOrTwo (drop at (now (s .entry))) ⌝ }
 {
     if s.len() <= at {
         return Taken::Nothing;
@@ -77,7 +77,7 @@ fn one_or_two(s: &[u8], at: usize) -> Taken
 
 // A dot, and one or two digits.
 fn dotted_number(s: &[u8], at: usize) -> Taken
-    ensures { λ r. ⌜ seen (now (s .entry)) r ≡ (afterDot (drop at (now (s .entry))) then oneOrTwo) ⌝ }
+    ensures { λ r. ⌜ takenAs (now (s .entry)) r ≡ (afterDot (drop at (now (s .entry))) then oneOrTwo) ⌝ }
 {
     if s.len() <= at {
         return Taken::Nothing;
@@ -91,7 +91,7 @@ fn dotted_number(s: &[u8], at: usize) -> Taken
 // After the dot that follows the day: an hour that does not start with 0, and nothing more. The dot itself has been read, so the
 // equation puts it back.
 fn hour_at(s: &[u8], at: usize) -> Hour
-    ensures { λ r. ⌜ hourOf r ≡ hourAfter (byte "." ∷ drop at (now (s .entry))) ⌝ }
+    ensures { λ r. ⌜ hourAs r ≡ hourAfter (byte "." ∷ drop at (now (s .entry))) ⌝ }
 {
     if s.len() <= at {
         return Hour::NotText;
@@ -110,7 +110,7 @@ fn hour_at(s: &[u8], at: usize) -> Hour
 
 // After the day: nothing, or a dot and an hour.
 fn hour_after(s: &[u8], at: usize) -> Hour
-    ensures { λ r. ⌜ hourOf r ≡ hourAfter (drop at (now (s .entry))) ⌝ }
+    ensures { λ r. ⌜ hourAs r ≡ hourAfter (drop at (now (s .entry))) ⌝ }
 {
     if s.len() <= at {
         return Hour::Value(0);
@@ -123,7 +123,7 @@ fn hour_after(s: &[u8], at: usize) -> Hour
 
 // Month, day and perhaps hour, from a place to the end of the text.
 pub fn dotted_part(s: &[u8], at: usize) -> Parts
-    ensures { λ r. ⌜ ((y : ℤ) → parts y r ≡ dottedPart y (drop at (now (s .entry)))) ⌝ }
+    ensures { λ r. ⌜ ((y : ℤ) → partsAs y r ≡ dottedPart y (drop at (now (s .entry)))) ⌝ }
 {
     let Taken::Value {
         value: month,

@@ -8,10 +8,10 @@ ghost use Rattle.rules.specs.Numbers.{readNumber, guessNumber};
 ghost use Rattle.rules.specs.Days.{addDays, difference, startOfDay, order};
 ghost use Rattle.rules.specs.Text.{readText};
 ghost use Rattle.rules.specs.Spelling.{dotted, iso, exchange, isoDateAlone, putAnswer, putBuffer};
-ghost use Rattle.kinds.specs.Views.{ordered};
-ghost use Rattle.day_count.specs.Views.{counted};
-ghost use Rattle.formatter.specs.Views.{spelled, lengthOf};
-ghost use Rattle.eu5_date.specs.Views.{bits, made, parsed, decoded, guessed, summed, started, inGame};
+ghost use Rattle.kinds.specs.Views.{orderedAs};
+ghost use Rattle.day_count.specs.Views.{countedAs};
+ghost use Rattle.formatter.specs.Views.{spelledAs, lengthOf};
+ghost use Rattle.eu5_date.specs.Views.{bits, madeAs, parsedAs, decodedAs, guessedAs, summedAs, startedAs, inGameAs};
 use day_count::Days;
 use formatter::Spelled;
 use kinds::Kind;
@@ -97,7 +97,7 @@ impl Eu5Date {
     }
 
     pub fn from_ymd_opt(year: i16, month: u8, day: u8) -> Made
-        ensures { λ r. ⌜ made r ≡ store (fromFields kE (record { year = year; month = month; day = day; hour = 0 })) ⌝ }
+        ensures { λ r. ⌜ madeAs r ≡ store (fromFields kE (record { year = year; month = month; day = day; hour = 0 })) ⌝ }
     {
         let made = kinds::make(Kind::Eu5, year, month, day, 0);
         match made {
@@ -134,7 +134,7 @@ impl Eu5Date {
 
     // The in-game hour, as jomini's `hour` gives it.
     pub fn hour(self) -> InGame
-        ensures { λ r. ⌜ inGame r ≡ ofDate kE (bits self) (λ f. Gives (inGameHour (f .hour))) ⌝ }
+        ensures { λ r. ⌜ inGameAs r ≡ ofDate kE (bits self) (λ f. Gives (inGameHour (f .hour))) ⌝ }
     {
         let opened = kinds::unpack(Kind::Eu5, self.raw);
         match opened {
@@ -147,7 +147,7 @@ impl Eu5Date {
     }
 
     pub fn parse(s: &[u8]) -> Parsed
-        ensures { λ r. ⌜ parsed r ≡ store (readText kE (now (s .entry))) ⌝ }
+        ensures { λ r. ⌜ parsedAs r ≡ store (readText kE (now (s .entry))) ⌝ }
     {
         if reading::TEXT_LIMIT < s.len() {
             return Parsed::TooLong;
@@ -164,7 +164,7 @@ impl Eu5Date {
 
     // For a field that is declared as a date.
     pub fn from_binary(s: i32) -> Decoded
-        ensures { λ r. ⌜ decoded r ≡ store (readNumber kE s) ⌝ }
+        ensures { λ r. ⌜ decodedAs r ≡ store (readNumber kE s) ⌝ }
     {
         let read = number::from_binary(Kind::Eu5, s);
         match read {
@@ -175,7 +175,7 @@ impl Eu5Date {
 
     // For a number that no one declared.
     pub fn from_binary_heuristic(s: i32) -> Guessed
-        ensures { λ r. ⌜ guessed r ≡ store (guessNumber kE s) ⌝ }
+        ensures { λ r. ⌜ guessedAs r ≡ store (guessNumber kE s) ⌝ }
     {
         let guess = number::from_binary_heuristic(Kind::Eu5, s);
         match guess {
@@ -186,7 +186,7 @@ impl Eu5Date {
 
     // A new date; the old one stays.
     pub fn add_days(self, days: i32) -> Summed
-        ensures { λ r. ⌜ summed r ≡ store (ofDate kE (bits self) (λ f. addDays kE f days)) ⌝ }
+        ensures { λ r. ⌜ summedAs r ≡ store (ofDate kE (bits self) (λ f. addDays kE f days)) ⌝ }
     {
         let sum = day_count::add_days(Kind::Eu5, self.raw, days);
         match sum {
@@ -198,14 +198,14 @@ impl Eu5Date {
     }
 
     pub fn days_until(self, other: Eu5Date) -> Days
-        ensures { λ r. ⌜ counted r ≡ ofDates kE (bits self) (bits other) (λ f g. difference kE f g) ⌝ }
+        ensures { λ r. ⌜ countedAs r ≡ ofDates kE (bits self) (bits other) (λ f g. difference kE f g) ⌝ }
     {
         day_count::days_until(Kind::Eu5, self.raw, other.raw)
     }
 
     // The same date at 08:00.
     pub fn start_of_day(self) -> Started
-        ensures { λ r. ⌜ started r ≡ store (ofDate kE (bits self) (λ f. startOfDay kE f)) ⌝ }
+        ensures { λ r. ⌜ startedAs r ≡ store (ofDate kE (bits self) (λ f. startOfDay kE f)) ⌝ }
     {
         let start = day_count::start_of_day(Kind::Eu5, self.raw);
         match start {
@@ -215,14 +215,14 @@ impl Eu5Date {
     }
 
     pub fn compare(self, other: Eu5Date) -> Ordered
-        ensures { λ r. ⌜ ordered r ≡ ofDates kE (bits self) (bits other) (λ f g. Gives (order f g)) ⌝ }
+        ensures { λ r. ⌜ orderedAs r ≡ ofDates kE (bits self) (bits other) (λ f g. Gives (order f g)) ⌝ }
     {
         kinds::compare(Kind::Eu5, self.raw, other.raw)
     }
 
     // The dotted text at the front of a buffer.
     pub fn game_fmt(self, out: &mut [u8]) -> Spelled
-        ensures { λ r. ⌜ spelled r ≡ putAnswer (ofDate kE (bits self) (λ f. Gives (dotted kE f))) (now (out .entry)) ⌝ }
+        ensures { λ r. ⌜ spelledAs r ≡ putAnswer (ofDate kE (bits self) (λ f. Gives (dotted kE f))) (now (out .entry)) ⌝ }
         ensures { λ _. ⌜ now (out .exit) ≡ putBuffer (ofDate kE (bits self) (λ f. Gives (dotted kE f))) (now (out .entry)) ⌝ }
         ensures { λ r. ⌜ lengthOf r ≤ length (now (out .entry)) ⌝ }
     {
@@ -231,7 +231,7 @@ impl Eu5Date {
 
     // The ISO text.
     pub fn iso_8601(self, out: &mut [u8]) -> Spelled
-        ensures { λ r. ⌜ spelled r ≡ putAnswer (ofDate kE (bits self) (λ f. Gives (iso kE f))) (now (out .entry)) ⌝ }
+        ensures { λ r. ⌜ spelledAs r ≡ putAnswer (ofDate kE (bits self) (λ f. Gives (iso kE f))) (now (out .entry)) ⌝ }
         ensures { λ _. ⌜ now (out .exit) ≡ putBuffer (ofDate kE (bits self) (λ f. Gives (iso kE f))) (now (out .entry)) ⌝ }
         ensures { λ r. ⌜ lengthOf r ≤ length (now (out .entry)) ⌝ }
     {
@@ -240,7 +240,7 @@ impl Eu5Date {
 
     // The exchange text.
     pub fn exchange(self, out: &mut [u8]) -> Spelled
-        ensures { λ r. ⌜ spelled r ≡ putAnswer (ofDate kE (bits self) (λ f. Gives (exchange kE f))) (now (out .entry)) ⌝ }
+        ensures { λ r. ⌜ spelledAs r ≡ putAnswer (ofDate kE (bits self) (λ f. Gives (exchange kE f))) (now (out .entry)) ⌝ }
         ensures { λ _. ⌜ now (out .exit) ≡ putBuffer (ofDate kE (bits self) (λ f. Gives (exchange kE f))) (now (out .entry)) ⌝ }
         ensures { λ r. ⌜ lengthOf r ≤ length (now (out .entry)) ⌝ }
     {
@@ -249,7 +249,7 @@ impl Eu5Date {
 
     // The ISO date alone.
     pub fn date_fmt(self, out: &mut [u8]) -> Spelled
-        ensures { λ r. ⌜ spelled r ≡ putAnswer (ofDate kE (bits self) (λ f. isoDateAlone kE f)) (now (out .entry)) ⌝ }
+        ensures { λ r. ⌜ spelledAs r ≡ putAnswer (ofDate kE (bits self) (λ f. isoDateAlone kE f)) (now (out .entry)) ⌝ }
         ensures { λ _. ⌜ now (out .exit) ≡ putBuffer (ofDate kE (bits self) (λ f. isoDateAlone kE f)) (now (out .entry)) ⌝ }
         ensures { λ r. ⌜ lengthOf r ≤ length (now (out .entry)) ⌝ }
     {

@@ -14,7 +14,7 @@ use Rattle.util.specs.Word.{allDigits}
 use Rattle.util.specs.Parse.{parsed}
 use Rattle.util.specs.declared.Parsed.{Parsed}
 use Rattle.util.specs.declared.Parsed.the-variants.{Value, NotDigits}
-use Rattle.kinds.specs.Views.{answer}
+use Rattle.kinds.specs.Views.{madeAs}
 use Rattle.kinds.specs.declared.Made.{Made}
 use Rattle.fast_date.specs.Fast.{fastShape, quickly, Quick, Answers, Silent, eight}
 
@@ -34,12 +34,12 @@ parsed-none bs e = split (allDigits bs) e
 
 -- the date made of eight digits' value, whose year comes to the maker as 16 bits, is their answer
 pub eight-told : (bs : List ℕ) (v : ℕ) {made r : Made} → Value v ≡ parsed bs → v < 100000000 →
-    ((n : ℕ) → answer n made ≡ store (settled kD n (record { year = toZ w16 (v / 10000); month = v / 100 % 100; day = v % 100; hour = 0 }))) →
-    made ≡ r → Answers (answer notText r) ≡ eight bs
+    ((n : ℕ) → madeAs n made ≡ store (settled kD n (record { year = toZ w16 (v / 10000); month = v / 100 % 100; day = v % 100; hour = 0 }))) →
+    made ≡ r → Answers (madeAs notText r) ≡ eight bs
 unfolding eight
 eight-told bs v is-v small is-made same =
     let t = parsed-some bs v is-v in
-    rw (t .0, t .1) (ap Answers (ap (answer notText) (sym same) ∙ (rw (toZ-pos w16 (v / 10000) (omega arith)) at (is-made notText))))
+    rw (t .0, t .1) (ap Answers (ap (madeAs notText) (sym same) ∙ (rw (toZ-pos w16 (v / 10000) (omega arith)) at (is-made notText))))
 
 -- what the fast path answers is what the plain reader answers
 pub quick-is : (s : List ℕ) (a : Answer Stored) → Answers a ≡ quickly s → a ≡ store (readText kD s)

@@ -6,8 +6,8 @@ use lib.Dec.{eqb}
 use Rattle.rules.specs.Refusals.{notOfKind}
 use Rattle.rules.proofs.ReadBack.{Determines, determined, backBy}
 use Rattle.formatter.specs.declared.Spelled.the-variants as W
-use Rattle.formatter.specs.Views.{spelled}
+use Rattle.formatter.specs.Views.{spelledAs}
 
-pub spelled-determined : Determines spelled
-spelled-determined = determined spelled (backBy W.Length (λ n. cond (eqb n notOfKind) W.NotOfKind W.Short))
+pub spelled-determined : Determines spelledAs
+spelled-determined = determined spelledAs (backBy W.Length (λ n. cond (eqb n notOfKind) W.NotOfKind W.Short))
     (λ r. elim r [ W.Length n ↦ refl | W.NotOfKind ↦ refl | W.Short ↦ refl ])

@@ -1,4 +1,4 @@
--- A marked number, by whether it has two digits; a year, by its sign; and the texts of `rules` as such pieces. Assumes nothing.
+-- A separated number, by whether it has two digits; a year, by its sign; and the texts of `rules` as such pieces. Assumes nothing.
 use mathlib.Core.Path.{_≡_, refl, sym, ap, _∙_}
 use mathlib.Core.Bool.{Bool, true, false, cond}
 use mathlib.Core.List.{List, [], _∷_, _++_, append-assoc, append-nil}
@@ -17,32 +17,32 @@ use Rattle.rules.proofs.KindLaws.{fit}
 use Rattle.rules.proofs.OrderLaws.{day-small, hour-small}
 use Rattle.rules.proofs.PackLaws.{handed-tells}
 use Rattle.digits.specs.Places.{digitsIn}
-use Rattle.formatter.specs.Pieces.{filledYear, yearText, marked, hourText, textOf}
+use Rattle.formatter.specs.Pieces.{filledYear, yearText, separated, hourText, textOf}
 use Rattle.formatter.specs.declared.pieces.Style.{Style}
 use Rattle.formatter.specs.declared.pieces.Hour.{Hour}
 use Rattle.formatter.specs.declared.years.Year.{Year}
 
--- ---- a marked number
+-- ---- a separated number
 
-pub marked-wide : (s : Style) (n : ℕ) → s .wide ≡ true → marked s n ≡ s .mark ∷ filled 2 n
-unfolding marked
-marked-wide s n e = rw e
+pub separated-wide : (s : Style) (n : ℕ) → s .wide ≡ true → separated s n ≡ s .separator ∷ filled 2 n
+unfolding separated
+separated-wide s n e = rw e
 
-pub marked-two : (s : Style) (n : ℕ) → s .wide ≡ false → 10 ≤ n → n < 100 → marked s n ≡ s .mark ∷ filled 2 n
-unfolding marked
-marked-two s n e a b = rw (e, two-digits n a b, filled-two n b)
+pub separated-two : (s : Style) (n : ℕ) → s .wide ≡ false → 10 ≤ n → n < 100 → separated s n ≡ s .separator ∷ filled 2 n
+unfolding separated
+separated-two s n e a b = rw (e, two-digits n a b, filled-two n b)
 
-pub marked-one : (s : Style) (n : ℕ) → s .wide ≡ false → n < 10 → marked s n ≡ s .mark ∷ digit n ∷ []
-unfolding marked
-marked-one s n e a = rw (e, one-digit n a)
+pub separated-one : (s : Style) (n : ℕ) → s .wide ≡ false → n < 10 → separated s n ≡ s .separator ∷ digit n ∷ []
+unfolding separated
+separated-one s n e a = rw (e, one-digit n a)
 
 -- what it needs of a buffer of m bytes
-pub two-room : {t : Bool} (s : Style) (n m : ℕ) → n < 100 → marked s n ≡ cond t (s .mark ∷ filled 2 n) (s .mark ∷ digit n ∷ []) → t ≡ true
-    → length (marked s n) ≤ m → 3 ≤ m
+pub two-room : {t : Bool} (s : Style) (n m : ℕ) → n < 100 → separated s n ≡ cond t (s .separator ∷ filled 2 n) (s .separator ∷ digit n ∷ []) → t ≡ true
+    → length (separated s n) ≤ m → 3 ≤ m
 two-room s n m h e p r = rw (e, p, filled-two n h) at r
 
-pub one-room : {t : Bool} (s : Style) (n m : ℕ) → marked s n ≡ cond t (s .mark ∷ filled 2 n) (s .mark ∷ digit n ∷ []) → t ≡ false
-    → length (marked s n) ≤ m → 2 ≤ m
+pub one-room : {t : Bool} (s : Style) (n m : ℕ) → separated s n ≡ cond t (s .separator ∷ filled 2 n) (s .separator ∷ digit n ∷ []) → t ≡ false
+    → length (separated s n) ≤ m → 2 ≤ m
 one-room s n m e p r = rw (e, p) at r
 
 -- ---- a year
@@ -77,17 +77,17 @@ lowered h = let back : h + 1 - 1 ≡ h = omega arith in rw (ne-eqb (h + 1) 0 (λ
 -- ---- the texts of `rules`, piece by piece
 
 abbrev isoStyle : Style
-isoStyle = record { mark = byte "-"; wide = true }
+isoStyle = record { separator = byte "-"; wide = true }
 
 pub dotted-pieces : (k : Kind) (f : Fields) (y : Year) (s : Style) (h : Hour) → yearText y ≡ plainYear (f .year)
-    → ((n : ℕ) → marked s n ≡ bytes "." ++ dottedPair k n) → hourText h ≡ dottedHour (f .hour)
+    → ((n : ℕ) → separated s n ≡ bytes "." ++ dottedPair k n) → hourText h ≡ dottedHour (f .hour)
     → textOf y s (f .month) (f .day) h ≡ dotted k f
 unfolding textOf dotted
 dotted-pieces k f y s h e p q = rw (e, p (f .month), p (f .day), q) (simp append-assoc)
 
 iso-pieces : (f : Fields) (y : Year) (h : Hour) {year hour : List ℕ} → yearText y ≡ year → hourText h ≡ hour
     → textOf y isoStyle (f .month) (f .day) h ≡ year ++ isoMonthDay f ++ hour
-unfolding textOf marked isoMonthDay
+unfolding textOf separated isoMonthDay
 iso-pieces f y h e q = rw (e, q) (simp append-assoc)
 
 pub iso-text : (k : Kind) (f : Fields) (y : Year) (h : Hour) → yearText y ≡ isoYear (f .year) → hourText h ≡ isoHour k (f .hour)

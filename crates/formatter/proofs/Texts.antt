@@ -8,11 +8,11 @@ use Rattle.rules.specs.Kinds.{Fields}
 use Rattle.rules.specs.Spelling.{putAnswer, putBuffer}
 use Rattle.formatter.specs.declared.Spelled.{Spelled}
 use Rattle.formatter.specs.declared.Spelled.the-variants as W
-use Rattle.formatter.specs.Views.{spelled, lengthOf}
+use Rattle.formatter.specs.Views.{spelledAs, lengthOf}
 
 -- the three clauses of a writer, for a text or a refusal, a buffer that held l₀ and one that holds l
 abbrev pub Done : Answer (List ℕ) → List ℕ → Spelled → List ℕ → Type 0
-Done text l₀ r l = (spelled r ≡ putAnswer text l₀) × ((l ≡ putBuffer text l₀) × (lengthOf r ≤ length l₀))
+Done text l₀ r l = (spelledAs r ≡ putAnswer text l₀) × ((l ≡ putBuffer text l₀) × (lengthOf r ≤ length l₀))
 
 -- the date is one of the kind, and its text is t
 pub by-text : {a : Answer Fields} {f : Fields} {t : List ℕ} (texts : Fields → Answer (List ℕ)) (l₀ l : List ℕ) (r : Spelled)

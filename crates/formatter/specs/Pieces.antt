@@ -1,4 +1,4 @@
--- The pieces that every text is made of: a year, and marked numbers of one or two digits after it. Assumes nothing.
+-- The pieces that every text is made of: a year, and separated numbers of one or two digits after it. Assumes nothing.
 use Prim.Native.Nat.{ℕ, suc}
 use mathlib.Core.Bool.{Bool, cond}
 use mathlib.Core.List.{List, [], _∷_, _++_}
@@ -24,14 +24,14 @@ signText sign = cond (eqb sign 0) [] (sign ∷ [])
 unfoldable pub yearText : Year → List ℕ
 yearText y = signText (y .sign) ++ digitsIn (y .digits) (y .size)
 
--- a mark, and a number in two digits, or in as many as it has
-unfoldable pub marked : Style → ℕ → List ℕ
-marked s n = s .mark ∷ cond (s .wide) (filled 2 n) (decimal n)
+-- a separator, and a number in two digits, or in as many as it has
+unfoldable pub separated : Style → ℕ → List ℕ
+separated s n = s .separator ∷ cond (s .wide) (filled 2 n) (decimal n)
 
 -- the hour, if it is shown
 abbrev pub hourText : Hour → List ℕ
-hourText h = cond (h .shown) (marked (h .style) (h .value)) []
+hourText h = cond (h .shown) (separated (h .style) (h .value)) []
 
 -- the whole text
 unfoldable pub textOf : Year → Style → ℕ → ℕ → Hour → List ℕ
-textOf year style month day hour = yearText year ++ marked style month ++ marked style day ++ hourText hour
+textOf year style month day hour = yearText year ++ separated style month ++ separated style day ++ hourText hour

@@ -4,10 +4,10 @@ use Rattle.rules.specs.Refusals.{Answer, Gives, Refused, notOfKind, bufferShort
 use Rattle.formatter.specs.declared.Spelled.{Spelled}
 use Rattle.formatter.specs.declared.Spelled.the-variants as W
 
-abbrev pub spelled : Spelled → Answer ℕ
-spelled (W.Length n) = Gives n
-spelled W.NotOfKind = Refused notOfKind
-spelled W.Short = Refused bufferShort
+abbrev pub spelledAs : Spelled → Answer ℕ
+spelledAs (W.Length n) = Gives n
+spelledAs W.NotOfKind = Refused notOfKind
+spelledAs W.Short = Refused bufferShort
 
 -- how many bytes of the buffer are the text's
 abbrev pub lengthOf : Spelled → ℕ

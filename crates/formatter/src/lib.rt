@@ -7,7 +7,7 @@ ghost use Rattle.rules.specs.Kinds.{ofDate};
 ghost use Rattle.rules.specs.Spelling.{hasIsoDate, dotted, iso, exchange, isoDateAlone, putAnswer, putBuffer};
 ghost use Rattle.kinds.specs.Views.{kindOf, bitsOf};
 ghost use Rattle.formatter.specs.Pieces.{textOf};
-ghost use Rattle.formatter.specs.Views.{spelled, lengthOf};
+ghost use Rattle.formatter.specs.Views.{spelledAs, lengthOf};
 use kinds::ExpandedRawDate;
 use kinds::Kind;
 use kinds::Opened;
@@ -30,27 +30,27 @@ pub enum Spelled {
 // A text at the front of a buffer, or nothing where the buffer is too short.
 fn put_text(out: &mut [u8], year: Year, style: Style, month: u8, day: u8, hour: Hour) -> Spelled
     requires { ⌜ (year .digits ≤ 5) × (month < 100) × (day < 100) × (hour .value < 100) ⌝ }
-    ensures { λ r. ⌜ spelled r ≡ putAnswer (Gives (textOf year style month day hour)) (now (out .entry)) ⌝ }
+    ensures { λ r. ⌜ spelledAs r ≡ putAnswer (Gives (textOf year style month day hour)) (now (out .entry)) ⌝ }
     ensures { λ _. ⌜ now (out .exit) ≡ putBuffer (Gives (textOf year style month day hour)) (now (out .entry)) ⌝ }
     ensures { λ r. ⌜ lengthOf r ≤ length (now (out .entry)) ⌝ }
 {
     let month_at = years::year_length(year);
-    let day_at = month_at + pieces::marked_length(style, month);
-    let hour_at = day_at + pieces::marked_length(style, day);
+    let day_at = month_at + pieces::separated_length(style, month);
+    let hour_at = day_at + pieces::separated_length(style, day);
     let end = hour_at + pieces::hour_length(hour);
     if out.len() < end {
         return Spelled::Short;
     }
     years::put_year(out, year);
-    pieces::put_marked(&mut out[month_at..], style, month);
-    pieces::put_marked(&mut out[day_at..], style, day);
+    pieces::put_separated(&mut out[month_at..], style, month);
+    pieces::put_separated(&mut out[day_at..], style, day);
     pieces::put_hour(&mut out[hour_at..], hour);
     Spelled::Length(end)
 }
 
 // Year, month and day with dots between, and the hour if it is not 0.
 pub fn game_fmt(kind: Kind, date: Packed, out: &mut [u8]) -> Spelled
-    ensures { λ r. ⌜ spelled r ≡ putAnswer (ofDate (kindOf kind) (bitsOf date) (λ f. Gives (dotted (kindOf kind) f))) (now (out .entry)) ⌝ }
+    ensures { λ r. ⌜ spelledAs r ≡ putAnswer (ofDate (kindOf kind) (bitsOf date) (λ f. Gives (dotted (kindOf kind) f))) (now (out .entry)) ⌝ }
     ensures { λ _. ⌜ now (out .exit) ≡ putBuffer (ofDate (kindOf kind) (bitsOf date) (λ f. Gives (dotted (kindOf kind) f))) (now (out .entry)) ⌝ }
     ensures { λ r. ⌜ lengthOf r ≤ length (now (out .entry)) ⌝ }
 {
@@ -67,7 +67,7 @@ pub fn game_fmt(kind: Kind, date: Packed, out: &mut [u8]) -> Spelled
 
 // The ISO text, its year in width 4 with the sign counted.
 pub fn iso_8601(kind: Kind, date: Packed, out: &mut [u8]) -> Spelled
-    ensures { λ r. ⌜ spelled r ≡ putAnswer (ofDate (kindOf kind) (bitsOf date) (λ f. Gives (iso (kindOf kind) f))) (now (out .entry)) ⌝ }
+    ensures { λ r. ⌜ spelledAs r ≡ putAnswer (ofDate (kindOf kind) (bitsOf date) (λ f. Gives (iso (kindOf kind) f))) (now (out .entry)) ⌝ }
     ensures { λ _. ⌜ now (out .exit) ≡ putBuffer (ofDate (kindOf kind) (bitsOf date) (λ f. Gives (iso (kindOf kind) f))) (now (out .entry)) ⌝ }
     ensures { λ r. ⌜ lengthOf r ≤ length (now (out .entry)) ⌝ }
 {
@@ -84,7 +84,7 @@ pub fn iso_8601(kind: Kind, date: Packed, out: &mut [u8]) -> Spelled
 
 // The exchange text, its year in at least four digits after a sign too.
 pub fn exchange(kind: Kind, date: Packed, out: &mut [u8]) -> Spelled
-    ensures { λ r. ⌜ spelled r ≡ putAnswer (ofDate (kindOf kind) (bitsOf date) (λ f. Gives (exchange (kindOf kind) f))) (now (out .entry)) ⌝ }
+    ensures { λ r. ⌜ spelledAs r ≡ putAnswer (ofDate (kindOf kind) (bitsOf date) (λ f. Gives (exchange (kindOf kind) f))) (now (out .entry)) ⌝ }
     ensures { λ _. ⌜ now (out .exit) ≡ putBuffer (ofDate (kindOf kind) (bitsOf date) (λ f. Gives (exchange (kindOf kind) f))) (now (out .entry)) ⌝ }
     ensures { λ r. ⌜ lengthOf r ≤ length (now (out .entry)) ⌝ }
 {
@@ -115,7 +115,7 @@ fn has_iso_date(kind: Kind) -> bool
 
 // The ISO date alone, which E has; the other kinds are refused.
 pub fn date_fmt(kind: Kind, date: Packed, out: &mut [u8]) -> Spelled
-    ensures { λ r. ⌜ spelled r ≡ putAnswer (ofDate (kindOf kind) (bitsOf date) (λ f. isoDateAlone (kindOf kind) f)) (now (out .entry)) ⌝ }
+    ensures { λ r. ⌜ spelledAs r ≡ putAnswer (ofDate (kindOf kind) (bitsOf date) (λ f. isoDateAlone (kindOf kind) f)) (now (out .entry)) ⌝ }
     ensures { λ _. ⌜ now (out .exit) ≡ putBuffer (ofDate (kindOf kind) (bitsOf date) (λ f. isoDateAlone (kindOf kind) f)) (now (out .entry)) ⌝ }
     ensures { λ r. ⌜ lengthOf r ≤ length (now (out .entry)) ⌝ }
 {

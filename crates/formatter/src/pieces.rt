@@ -1,4 +1,4 @@
-// What stands after the year: a month, a day and perhaps an hour, each behind its mark.
+// What stands after the year: a month, a day and perhaps an hour, each behind its separator.
 ghost use mathlib.Core.Path.{_≡_};
 ghost use mathlib.Core.Bool.{cond};
 ghost use mathlib.Core.List.{[], _∷_};
@@ -6,11 +6,11 @@ ghost use Prim.Native.Nat.{_≤_, _<_};
 ghost use lib.ListN.{length};
 ghost use Rattle.rules.specs.Spelling.{digit, filled};
 ghost use Rattle.digits.specs.Places.{placed};
-ghost use Rattle.formatter.specs.Pieces.{marked, hourText};
+ghost use Rattle.formatter.specs.Pieces.{separated, hourText};
 
-// The mark before a number, and whether the number has always two digits.
+// The separator before a number, and whether the number has always two digits.
 pub(crate) struct Style {
-    pub(crate) mark: u8,
+    pub(crate) separator: u8,
     pub(crate) wide: bool,
 }
 
@@ -24,7 +24,7 @@ pub(crate) struct Hour {
 // Whether a number is written in two digits.
 fn takes_two(style: Style, n: u8) -> bool
     requires { ⌜ n < 100 ⌝ }
-    ensures { λ r. ⌜ marked style n ≡ cond r (style .mark ∷ filled 2 n) (style .mark ∷ digit n ∷ []) ⌝ }
+    ensures { λ r. ⌜ separated style n ≡ cond r (style .separator ∷ filled 2 n) (style .separator ∷ digit n ∷ []) ⌝ }
 {
     if style.wide {
         return true;
@@ -35,10 +35,10 @@ fn takes_two(style: Style, n: u8) -> bool
     false
 }
 
-// How many bytes a marked number has.
-pub(crate) fn marked_length(style: Style, n: u8) -> usize
+// How many bytes a separated number has.
+pub(crate) fn separated_length(style: Style, n: u8) -> usize
     requires { ⌜ n < 100 ⌝ }
-    ensures { λ r. ⌜ r ≡ length (marked style n) ⌝ }
+    ensures { λ r. ⌜ r ≡ length (separated style n) ⌝ }
     ensures { λ r. ⌜ r ≤ 3 ⌝ }
 {
     if takes_two(style, n) {
@@ -47,16 +47,16 @@ pub(crate) fn marked_length(style: Style, n: u8) -> usize
     2
 }
 
-pub(crate) fn put_marked(out: &mut [u8], style: Style, n: u8)
-    requires { ⌜ (n < 100) × (length (marked style n) ≤ length (now out)) ⌝ }
-    ensures { λ _. ⌜ now (out .exit) ≡ placed (marked style n) (now (out .entry)) ⌝ }
+pub(crate) fn put_separated(out: &mut [u8], style: Style, n: u8)
+    requires { ⌜ (n < 100) × (length (separated style n) ≤ length (now out)) ⌝ }
+    ensures { λ _. ⌜ now (out .exit) ≡ placed (separated style n) (now (out .entry)) ⌝ }
 {
-    let mark = style.mark;
+    let separator = style.separator;
     if takes_two(style, n) {
         digits::put_two(&mut out[1..], n);
-        out[0] = mark;
+        out[0] = separator;
     } else {
-        out[0] = mark;
+        out[0] = separator;
         out[1] = b'0' + n;
     }
 }
@@ -68,7 +68,7 @@ pub(crate) fn hour_length(hour: Hour) -> usize
     ensures { λ r. ⌜ r ≤ 3 ⌝ }
 {
     if hour.shown {
-        return marked_length(hour.style, hour.value);
+        return separated_length(hour.style, hour.value);
     }
     0
 }
@@ -78,6 +78,6 @@ pub(crate) fn put_hour(out: &mut [u8], hour: Hour)
     ensures { λ _. ⌜ now (out .exit) ≡ placed (hourText hour) (now (out .entry)) ⌝ }
 {
     if hour.shown {
-        put_marked(out, hour.style, hour.value);
+        put_separated(out, hour.style, hour.value);
     }
 }

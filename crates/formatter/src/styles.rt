@@ -5,38 +5,38 @@ ghost use Prim.Native.Nat.{ℕ, _≤_, _<_};
 ghost use Rattle.rules.specs.Words.{bytes};
 ghost use Rattle.rules.specs.Spelling.{dottedPair, dottedHour, isoHourBefore, isoHour};
 ghost use Rattle.kinds.specs.Views.{kindOf};
-ghost use Rattle.formatter.specs.Pieces.{marked, hourText};
+ghost use Rattle.formatter.specs.Pieces.{separated, hourText};
 use crate::pieces::Hour;
 use crate::pieces::Style;
 use kinds::Kind;
 
 // A dot, and as many digits as the number has.
 const UNPADDED: Style = Style {
-    mark: b'.',
+    separator: b'.',
     wide: false,
 };
 
 // A dot and two digits.
 const PADDED: Style = Style {
-    mark: b'.',
+    separator: b'.',
     wide: true,
 };
 
 // A hyphen and two digits.
 pub(crate) const ISO: Style = Style {
-    mark: b'-',
+    separator: b'-',
     wide: true,
 };
 
 // A T and two digits.
 const TIME: Style = Style {
-    mark: b'T',
+    separator: b'T',
     wide: true,
 };
 
 // Month and day of the dotted text: U's have always two digits.
 pub(crate) fn dotted_style(kind: Kind) -> Style
-    ensures { λ r. ⌜ ((n : ℕ) → marked r n ≡ bytes "." ++ dottedPair (kindOf kind) n) ⌝ }
+    ensures { λ r. ⌜ ((n : ℕ) → separated r n ≡ bytes "." ++ dottedPair (kindOf kind) n) ⌝ }
 {
     match kind {
         Kind::Raw => UNPADDED,

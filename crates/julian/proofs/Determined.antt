@@ -4,10 +4,10 @@ use Prim.Native.Nat.{ℕ}
 use Rattle.rules.proofs.ReadBack.{Determines, determined, backOne}
 use Rattle.julian.specs.declared.MonthDay.{MonthDay}
 use Rattle.julian.specs.declared.FirstDay.the-variants.{Day, NoMonth}
-use Rattle.julian.specs.First.{answer}
+use Rattle.julian.specs.First.{firstDayAs}
 
-pub answer-determined : Determines answer
-answer-determined = determined answer (backOne Day NoMonth) (λ r. elim r [ Day d ↦ refl | NoMonth ↦ refl ])
+pub answer-determined : Determines firstDayAs
+answer-determined = determined firstDayAs (backOne Day NoMonth) (λ r. elim r [ Day d ↦ refl | NoMonth ↦ refl ])
 
 -- the contract has an equation for each field
 pub month-day-determined : (r s : MonthDay) (m d : ℕ) → (r .month ≡ m) × (r .day ≡ d) → (s .month ≡ m) × (s .day ≡ d) → r ≡ s

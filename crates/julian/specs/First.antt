@@ -9,6 +9,6 @@ use Rattle.julian.specs.declared.FirstDay.the-variants.{Day, NoMonth}
 unfoldable pub firstDayOf : ℕ → Answer ℕ
 firstDayOf m = demand (within 1 12 m) notOfKind (Gives (firstDay m))
 
-abbrev pub answer : FirstDay → Answer ℕ
-answer (Day d) = Gives d
-answer NoMonth = Refused notOfKind
+abbrev pub firstDayAs : FirstDay → Answer ℕ
+firstDayAs (Day d) = Gives d
+firstDayAs NoMonth = Refused notOfKind

@@ -5,7 +5,7 @@ ghost use mathlib.Core.Path.{_≡_};
 ghost use Prim.Native.Nat.{_≤_, _<_};
 ghost use Rattle.rules.specs.Calendar.{monthDay, monthLength, dayOfYear};
 ghost use Rattle.rules.specs.Numbers.{straightAt};
-ghost use Rattle.julian.specs.First.{answer, firstDayOf};
+ghost use Rattle.julian.specs.First.{firstDayAs, firstDayOf};
 
 const LENGTHS: [u8; 13] = [0, 31, 28, 31, 30, 31, 30, 31, 31, 30, 31, 30, 31];
 
@@ -44,7 +44,7 @@ pub enum FirstDay {
 
 // The day of year of a month's first day, or that there is no such month.
 pub fn julian_ordinal_day(month: u8) -> FirstDay
-    ensures { λ r. ⌜ answer r ≡ firstDayOf month ⌝ }
+    ensures { λ r. ⌜ firstDayAs r ≡ firstDayOf month ⌝ }
 {
     match month {
         1 => FirstDay::Day(0),

@@ -15,7 +15,7 @@ use Rattle.kinds.specs.declared.Made.the-variants as M
 use Rattle.kinds.specs.declared.Opened.the-variants as O
 use Rattle.kinds.specs.declared.Ordered.{Ordered}
 use Rattle.kinds.specs.declared.Ordered.the-variants as R
-use Rattle.kinds.specs.Views.{kindOf, answer, opened, ordered}
+use Rattle.kinds.specs.Views.{kindOf, madeAs, openedAs, orderedAs}
 
 -- the code's structs of what `rules` has: the way back of `bitsOf` and `fieldsOf`
 abbrev pub packedOf : Stored → Packed
@@ -36,14 +36,14 @@ kindBack K.kV = C.Vic3
 pub kind-back : (k : Kind) → kindBack (kindOf k) ≡ k
 kind-back k = elim k [ C.Raw ↦ refl | C.Date ↦ refl | C.Hour ↦ refl | C.Uniform ↦ refl | C.Eu5 ↦ refl | C.Vic3 ↦ refl ]
 
-pub answer-determined : (n : ℕ) → Determines (answer n)
-answer-determined n = determined (answer n) (backOne (λ d. M.Date (packedOf d)) M.None) (λ r. elim r [ M.Date d ↦ refl | M.None ↦ refl ])
+pub answer-determined : (n : ℕ) → Determines (madeAs n)
+answer-determined n = determined (madeAs n) (backOne (λ d. M.Date (packedOf d)) M.None) (λ r. elim r [ M.Date d ↦ refl | M.None ↦ refl ])
 
-pub answers-determined : DeterminesEach answer
-answers-determined = determined-at answer notOfKind (answer-determined notOfKind)
+pub answers-determined : DeterminesEach madeAs
+answers-determined = determined-at madeAs notOfKind (answer-determined notOfKind)
 
-pub opened-determined : Determines opened
-opened-determined = determined opened (backOne (λ f. O.Fields (expandedOf f)) O.NotOfKind)
+pub opened-determined : Determines openedAs
+opened-determined = determined openedAs (backOne (λ f. O.Fields (expandedOf f)) O.NotOfKind)
     (λ r. elim r [ O.Fields f ↦ refl | O.NotOfKind ↦ refl ])
 
 abbrev orderBack : D.Order → Ordered
@@ -51,6 +51,6 @@ orderBack D.Before = R.Before
 orderBack D.Same = R.Same
 orderBack D.After = R.After
 
-pub ordered-determined : Determines ordered
-ordered-determined = determined ordered (backOne orderBack R.NotOfKind)
+pub ordered-determined : Determines orderedAs
+ordered-determined = determined orderedAs (backOne orderBack R.NotOfKind)
     (λ r. elim r [ R.Before ↦ refl | R.Same ↦ refl | R.After ↦ refl | R.NotOfKind ↦ refl ])

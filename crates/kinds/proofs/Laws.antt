@@ -19,7 +19,7 @@ use Rattle.rules.proofs.KindLaws.{Fit, fit}
 use Rattle.rules.proofs.OrderLaws.{day-small, hour-small}
 use Rattle.rules.proofs.PackLaws.{word-alone, handed-by}
 use Rattle.kinds.specs.declared.Made.{Made}
-use Rattle.kinds.specs.Views.{answer}
+use Rattle.kinds.specs.Views.{madeAs}
 
 pub year-fits : (y : ℤ) → SFits w16 y → fits16 y ≡ true
 year-fits y f =
@@ -96,7 +96,7 @@ order-words d e =
 -- ---- a kind's answer, from the maker's: the year comes to it as 16 bits, the hour is the one that the kind's field sets have
 
 pub made-told : (k : Kind) (f : Fields) {date r : Made} → fieldSetHour k (f .hour) ≡ f .hour → SFits w16 (f .year) →
-    ((n : ℕ) → answer n date ≡ store (made k n (record { year = toZ w16 (ofZ w16 (f .year)); month = f .month; day = f .day; hour = f .hour }))) →
-    date ≡ r → answer notOfKind r ≡ store (fromFields k f)
+    ((n : ℕ) → madeAs n date ≡ store (made k n (record { year = toZ w16 (ofZ w16 (f .year)); month = f .month; day = f .day; hour = f .hour }))) →
+    date ≡ r → madeAs notOfKind r ≡ store (fromFields k f)
 unfolding fromFields
-made-told k f set fits is same = rw set (ap (answer notOfKind) (sym same) ∙ (rw (toZ-ofZ fits) at (is notOfKind)))
+made-told k f set fits is same = rw set (ap (madeAs notOfKind) (sym same) ∙ (rw (toZ-ofZ fits) at (is notOfKind)))

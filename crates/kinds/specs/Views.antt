@@ -30,16 +30,16 @@ abbrev pub bitsOf : Packed → K.Stored
 bitsOf p = record { year = p .year; word = p .word }
 
 -- a date made, or the refusal n
-abbrev pub answer : ℕ → Made → Answer K.Stored
-answer n (M.Date p) = Gives (bitsOf p)
-answer n M.None = Refused n
+abbrev pub madeAs : ℕ → Made → Answer K.Stored
+madeAs n (M.Date p) = Gives (bitsOf p)
+madeAs n M.None = Refused n
 
-abbrev pub opened : Opened → Answer K.Fields
-opened (O.Fields e) = Gives (fieldsOf e)
-opened O.NotOfKind = Refused notOfKind
+abbrev pub openedAs : Opened → Answer K.Fields
+openedAs (O.Fields e) = Gives (fieldsOf e)
+openedAs O.NotOfKind = Refused notOfKind
 
-abbrev pub ordered : Ordered → Answer D.Order
-ordered R.Before = Gives D.Before
-ordered R.Same = Gives D.Same
-ordered R.After = Gives D.After
-ordered R.NotOfKind = Refused notOfKind
+abbrev pub orderedAs : Ordered → Answer D.Order
+orderedAs R.Before = Gives D.Before
+orderedAs R.Same = Gives D.Same
+orderedAs R.After = Gives D.After
+orderedAs R.NotOfKind = Refused notOfKind

@@ -5,7 +5,7 @@ ghost use Rattle.rules.specs.Kinds.{daysIn, hourFits, fitsKind, made, fieldSetH
 ghost use Rattle.rules.specs.Refusals.{Gives, given, notOfKind};
 ghost use Rattle.rules.specs.Days.{order};
 ghost use Rattle.kinds.specs.HourBits.{hourBits};
-ghost use Rattle.kinds.specs.Views.{kindOf, bitsOf, answer, opened, ordered};
+ghost use Rattle.kinds.specs.Views.{kindOf, bitsOf, madeAs, openedAs, orderedAs};
 pub use word::NO_MARK;
 pub use word::day_of;
 pub use word::fields_of;
@@ -121,7 +121,7 @@ fn fits_kind(kind: Kind, month: u8, day: u8, hour: u8) -> bool
 
 // A date of the kind with these fields, or none.
 pub fn make(kind: Kind, year: i16, month: u8, day: u8, hour: u8) -> Made
-    ensures { λ r. ⌜ ((n : ℕ) → answer n r ≡ store (made (kindOf kind) n (record { year = year; month = month; day = day; hour = hour }))) ⌝ }
+    ensures { λ r. ⌜ ((n : ℕ) → madeAs n r ≡ store (made (kindOf kind) n (record { year = year; month = month; day = day; hour = hour }))) ⌝ }
 {
     if fits_kind(kind, month, day, hour) {
         let fields = ExpandedRawDate {
@@ -152,7 +152,7 @@ fn field_set_hour(kind: Kind, hour: u32) -> u32
 
 // A date of these numbers. One that its own type in a date does not hold is of no date: it is refused, and never cut to size.
 fn make_wide(kind: Kind, year: i32, month: u32, day: u32, hour: u32) -> Made
-    ensures { λ r. ⌜ answer notOfKind r ≡ store (made (kindOf kind) notOfKind (record { year = year; month = month; day = day; hour = hour })) ⌝ }
+    ensures { λ r. ⌜ madeAs notOfKind r ≡ store (made (kindOf kind) notOfKind (record { year = year; month = month; day = day; hour = hour })) ⌝ }
 {
     let halves = sign::halves32(year);
     let up = halves.up;
@@ -178,7 +178,7 @@ fn make_wide(kind: Kind, year: i32, month: u32, day: u32, hour: u32) -> Made
 
 // A date of a field set, of any numbers.
 pub fn from_fields(kind: Kind, year: i32, month: u32, day: u32, hour: u32) -> Made
-    ensures { λ r. ⌜ answer notOfKind r ≡ store (fromFields (kindOf kind) (record { year = year; month = month; day = day; hour = hour })) ⌝ }
+    ensures { λ r. ⌜ madeAs notOfKind r ≡ store (fromFields (kindOf kind) (record { year = year; month = month; day = day; hour = hour })) ⌝ }
 {
     make_wide(kind, year, month, day, field_set_hour(kind, hour))
 }
@@ -204,7 +204,7 @@ fn settled_hour(kind: Kind, hour: u8) -> u8
 
 // A date of the kind with the fields that a text or a number has, or none.
 pub fn settle(kind: Kind, year: i16, month: u8, day: u8, hour: u8) -> Made
-    ensures { λ r. ⌜ ((n : ℕ) → answer n r ≡ store (settled (kindOf kind) n (record { year = year; month = month; day = day; hour = hour }))) ⌝ }
+    ensures { λ r. ⌜ ((n : ℕ) → madeAs n r ≡ store (settled (kindOf kind) n (record { year = year; month = month; day = day; hour = hour }))) ⌝ }
 {
     make(kind, year, month, day, settled_hour(kind, hour))
 }
@@ -212,7 +212,7 @@ pub fn settle(kind: Kind, year: i16, month: u8, day: u8, hour: u8) -> Made
 // The same where the month and the day are of the kind: the hour alone is tested.
 pub fn settle_day(kind: Kind, year: i16, month: u8, day: u8, hour: u8) -> Made
     requires { ⌜ (1 ≤ month) × (month ≤ 12) × (1 ≤ day) × (day ≤ daysIn (kindOf kind) month) ⌝ }
-    ensures { λ r. ⌜ ((n : ℕ) → answer n r ≡ store (settled (kindOf kind) n (record { year = year; month = month; day = day; hour = hour }))) ⌝ }
+    ensures { λ r. ⌜ ((n : ℕ) → madeAs n r ≡ store (settled (kindOf kind) n (record { year = year; month = month; day = day; hour = hour }))) ⌝ }
 {
     let settled = settled_hour(kind, hour);
     if hour_fits(kind, settled) {
@@ -230,7 +230,7 @@ pub fn settle_day(kind: Kind, year: i16, month: u8, day: u8, hour: u8) -> Made
 
 // The fields of a date handed in. Every operation on a date goes through here first.
 pub fn unpack(kind: Kind, date: Packed) -> Opened
-    ensures { λ r. ⌜ opened r ≡ handed (kindOf kind) (bitsOf date) ⌝ }
+    ensures { λ r. ⌜ openedAs r ≡ handed (kindOf kind) (bitsOf date) ⌝ }
 {
     if word::mark_allowed(mark_of(date)) {
         let fields = fields_of(date);
@@ -254,7 +254,7 @@ pub fn is_of_kind(kind: Kind, date: Packed) -> bool
 
 // Year, then packed word: the word without its mark, which is no field.
 fn order_of(first: Packed, second: Packed) -> Ordered
-    ensures { λ r. ⌜ ordered r ≡ Gives (order (unpacked (bitsOf first)) (unpacked (bitsOf second))) ⌝ }
+    ensures { λ r. ⌜ orderedAs r ≡ Gives (order (unpacked (bitsOf first)) (unpacked (bitsOf second))) ⌝ }
 {
     let a = first.year;
     let b = second.year;
@@ -277,7 +277,7 @@ fn order_of(first: Packed, second: Packed) -> Ordered
 
 // The order of two dates of one kind.
 pub fn compare(kind: Kind, first: Packed, second: Packed) -> Ordered
-    ensures { λ r. ⌜ ordered r ≡ ofDates (kindOf kind) (bitsOf first) (bitsOf second) (λ f g. Gives (order f g)) ⌝ }
+    ensures { λ r. ⌜ orderedAs r ≡ ofDates (kindOf kind) (bitsOf first) (bitsOf second) (λ f g. Gives (order f g)) ⌝ }
 {
     if is_of_kind(kind, first) {
         if is_of_kind(kind, second) {

@@ -3,7 +3,7 @@
 use mathlib.Core.Path.{refl}
 use Rattle.rules.proofs.ReadBack.{Determines, determined, backOne}
 use Rattle.listing.specs.declared.Listed.the-variants as L
-use Rattle.listing.specs.Answers.{listed}
+use Rattle.listing.specs.Answers.{listedAs}
 
-pub listed-determined : Determines listed
-listed-determined = determined listed (backOne L.Length L.Short) (λ r. elim r [ L.Length n ↦ refl | L.Short ↦ refl ])
+pub listed-determined : Determines listedAs
+listed-determined = determined listedAs (backOne L.Length L.Short) (λ r. elim r [ L.Length n ↦ refl | L.Short ↦ refl ])

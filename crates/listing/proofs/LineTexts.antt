@@ -19,7 +19,7 @@ use Rattle.rules.proofs.PackLaws.{handed-by, handed-tells}
 use Rattle.rules.proofs.ReadBack.{backOne}
 use Rattle.formatter.specs.declared.Spelled.{Spelled}
 use Rattle.formatter.specs.declared.Spelled.the-variants as W
-use Rattle.formatter.specs.Views.{spelled, lengthOf}
+use Rattle.formatter.specs.Views.{spelledAs, lengthOf}
 use Rattle.formatter.proofs.Texts.{Done}
 
 -- a refusal of one digit
@@ -37,7 +37,7 @@ pub length-told : {R : Type 0} (view : R → Answer ℕ) (long : R → ℕ) → 
     → (r : R) (n : ℕ) → view r ≡ Gives n → long r ≡ n
 length-told view long same r n e = sym (same r) ∙ ap (backOne (λ (x : ℕ). x) 0) e
 
-spelled-length : (r : Spelled) → backOne (λ (x : ℕ). x) 0 (spelled r) ≡ lengthOf r
+spelled-length : (r : Spelled) → backOne (λ (x : ℕ). x) 0 (spelledAs r) ≡ lengthOf r
 spelled-length r = elim r [ W.Length m ↦ refl | W.NotOfKind ↦ refl | W.Short ↦ refl ]
 
 -- what the writer of a text of at most 15 bytes answers then, and what the buffer holds
@@ -54,7 +54,7 @@ fits k d texts l₀ l r g room short done =
     let s = short (handed-tells k d (unpacked d) e .of-kind) in
     let n = length (texts (unpacked d)) in
     let test = le-leb n (length l₀) (omega arith) in
-    let told = length-told spelled lengthOf spelled-length r n (rw (e, test) at (done .0)) in
+    let told = length-told spelledAs lengthOf spelled-length r n (rw (e, test) at (done .0)) in
     record { answered = (told, omega arith); holds = rw (e, test) at (done .1 .0) }
 
 -- ---- a text that was built in a room of its own, and copied

@@ -18,7 +18,7 @@ use Rattle.rules.proofs.ReadBack.{backOne}
 use Rattle.rules.proofs.WriteLaws.{tail-lent, tail-back}
 use Rattle.listing.specs.declared.Listed.{Listed}
 use Rattle.listing.specs.declared.Listed.the-variants as L
-use Rattle.listing.specs.Answers.{listed, lengthOf}
+use Rattle.listing.specs.Answers.{listedAs, lengthOf}
 use Rattle.listing.specs.Views.{printed}
 use Rattle.listing.proofs.LineTexts.{length-told}
 
@@ -114,10 +114,10 @@ pub record Whole (t l₀ : List ℕ) (r : Listed) (l : List ℕ) : Type 0 where
   pub answered : lengthOf r ≡ length t
   pub holds : l ≡ t ++ drop (length t) l₀
 
-listed-length : (r : Listed) → backOne (λ (x : ℕ). x) 0 (listed r) ≡ lengthOf r
+listed-length : (r : Listed) → backOne (λ (x : ℕ). x) 0 (listedAs r) ≡ lengthOf r
 listed-length r = elim r [ L.Length m ↦ refl | L.Short ↦ refl ]
 
 pub whole : (t l₀ : List ℕ) {l : List ℕ} (r : Listed) → length t ≤ length l₀
-    → listed r ≡ putAnswer (Gives t) l₀ → l ≡ putBuffer (Gives t) l₀ → Whole t l₀ r l
+    → listedAs r ≡ putAnswer (Gives t) l₀ → l ≡ putBuffer (Gives t) l₀ → Whole t l₀ r l
 unfolding putAnswer putBuffer
-whole t l₀ r h a b = let test = le-leb _ _ h in record { answered = length-told listed lengthOf listed-length r _ (rw test at a); holds = rw test at b }
+whole t l₀ r h a b = let test = le-leb _ _ h in record { answered = length-told listedAs lengthOf listed-length r _ (rw test at a); holds = rw test at b }

@@ -4,9 +4,9 @@ use Rattle.rules.specs.Refusals.{Answer, Gives, Refused, bufferShort}
 use Rattle.listing.specs.declared.Listed.{Listed}
 use Rattle.listing.specs.declared.Listed.the-variants as L
 
-abbrev pub listed : Listed → Answer ℕ
-listed (L.Length n) = Gives n
-listed L.Short = Refused bufferShort
+abbrev pub listedAs : Listed → Answer ℕ
+listedAs (L.Length n) = Gives n
+listedAs L.Short = Refused bufferShort
 
 -- how many bytes of the buffer were written
 abbrev pub lengthOf : Listed → ℕ

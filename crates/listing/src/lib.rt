@@ -8,7 +8,7 @@ ghost use Rattle.rules.specs.Refusals.{Gives};
 ghost use Rattle.rules.specs.Spelling.{putAnswer, putBuffer};
 ghost use Rattle.rules.specs.Listing.{lineOutput, lineEnd, listing};
 ghost use Rattle.digits.specs.Places.{placed};
-ghost use Rattle.listing.specs.Answers.{listed, lengthOf};
+ghost use Rattle.listing.specs.Answers.{listedAs, lengthOf};
 use request::Asked;
 use request::Request;
 
@@ -48,7 +48,7 @@ fn build(s: &[u8], out: &mut [u8]) -> usize
 
 // What one line prints, its end included, at the front of a buffer; nothing where the buffer is shorter.
 pub fn line(s: &[u8], out: &mut [u8]) -> Listed
-    ensures { λ r. ⌜ listed r ≡ putAnswer (Gives (lineOutput (now (s .entry)))) (now (out .entry)) ⌝ }
+    ensures { λ r. ⌜ listedAs r ≡ putAnswer (Gives (lineOutput (now (s .entry)))) (now (out .entry)) ⌝ }
     ensures { λ _. ⌜ now (out .exit) ≡ putBuffer (Gives (lineOutput (now (s .entry)))) (now (out .entry)) ⌝ }
     ensures { λ r. ⌜ lengthOf r ≤ length (now (out .entry)) ⌝ }
 {
@@ -63,7 +63,7 @@ pub fn line(s: &[u8], out: &mut [u8]) -> Listed
 
 // All that is printed of an input that is too long.
 fn too_long(out: &mut [u8]) -> Listed
-    ensures { λ r. ⌜ listed r ≡ putAnswer (Gives (bytes "input too long" ++ lineEnd)) (now (out .entry)) ⌝ }
+    ensures { λ r. ⌜ listedAs r ≡ putAnswer (Gives (bytes "input too long" ++ lineEnd)) (now (out .entry)) ⌝ }
     ensures { λ _. ⌜ now (out .exit) ≡ putBuffer (Gives (bytes "input too long" ++ lineEnd)) (now (out .entry)) ⌝ }
     ensures { λ r. ⌜ lengthOf r ≤ length (now (out .entry)) ⌝ }
 {
@@ -76,7 +76,7 @@ fn too_long(out: &mut [u8]) -> Listed
 
 // What `datelist` prints of an input, at the front of a buffer; nothing where the buffer is shorter.
 pub fn listing(input: &[u8], out: &mut [u8]) -> Listed
-    ensures { λ r. ⌜ listed r ≡ putAnswer (Gives (listing (now (input .entry)))) (now (out .entry)) ⌝ }
+    ensures { λ r. ⌜ listedAs r ≡ putAnswer (Gives (listing (now (input .entry)))) (now (out .entry)) ⌝ }
     ensures { λ _. ⌜ now (out .exit) ≡ putBuffer (Gives (listing (now (input .entry)))) (now (out .entry)) ⌝ }
     ensures { λ r. ⌜ lengthOf r ≤ length (now (out .entry)) ⌝ }
 {

@@ -9,16 +9,16 @@ use Rattle.number.specs.declared.Numbered.the-variants as N
 use Rattle.number.specs.declared.Read.the-variants as R
 use Rattle.number.specs.declared.Guess.the-variants as G
 use Rattle.number.specs.declared.Written.the-variants as W
-use Rattle.number.specs.Views.{numbered, readAs, guessedAs, writtenAs}
+use Rattle.number.specs.Views.{numberedAs, readAs, guessedAs, writtenAs}
 
-numbered-at : (n : ℕ) → Determines (numbered n)
+numbered-at : (n : ℕ) → Determines (numberedAs n)
 numbered-at n =
-    determined (numbered n) (backOne (λ f. N.Fields (expandedOf f)) N.None)
+    determined (numberedAs n) (backOne (λ f. N.Fields (expandedOf f)) N.None)
     (λ r. elim r [ N.Fields f ↦ refl | N.None ↦ refl ])
 
 -- the contract holds for every refusal n
-pub numbered-determined : DeterminesEach numbered
-numbered-determined = determined-at numbered notNumber (numbered-at notNumber)
+pub numbered-determined : DeterminesEach numberedAs
+numbered-determined = determined-at numberedAs notNumber (numbered-at notNumber)
 
 pub readAs-determined : Determines readAs
 readAs-determined = determined readAs (backOne (λ d. R.Date (packedOf d)) R.NotNumber) (λ r. elim r [ R.Date d ↦ refl | R.NotNumber ↦ refl ])

@@ -14,9 +14,9 @@ use Rattle.number.specs.declared.Written.{Written}
 use Rattle.number.specs.declared.Written.the-variants as W
 
 -- fields, or the refusal n
-abbrev pub numbered : ℕ → Numbered → Answer Fields
-numbered n (N.Fields e) = Gives (fieldsOf e)
-numbered n N.None = Refused n
+abbrev pub numberedAs : ℕ → Numbered → Answer Fields
+numberedAs n (N.Fields e) = Gives (fieldsOf e)
+numberedAs n N.None = Refused n
 
 -- the hour of the fields, for the callers' arithmetic
 abbrev pub hourIn : Numbered → ℕ

@@ -5,8 +5,8 @@ ghost use Prim.Native.Nat.{ℕ, _≤_, _<_};
 ghost use Rattle.rules.specs.Refusals.{notNumber};
 ghost use Rattle.rules.specs.Kinds.{daysIn, store, ofDate};
 ghost use Rattle.rules.specs.Numbers.{numberFields, readsNumbers, decodedHour, decoded, readNumber, guesses, guessNumber, writesNumbers, writtenHour, writeNumber};
-ghost use Rattle.kinds.specs.Views.{kindOf, fieldsOf, answer, bitsOf};
-ghost use Rattle.number.specs.Views.{numbered, hourIn, readAs, guessedAs, writtenAs};
+ghost use Rattle.kinds.specs.Views.{kindOf, fieldsOf, madeAs, bitsOf};
+ghost use Rattle.number.specs.Views.{numberedAs, hourIn, readAs, guessedAs, writtenAs};
 use kinds::ExpandedRawDate;
 use kinds::Kind;
 use kinds::Made;
@@ -48,7 +48,7 @@ const LEAST_BELOW: u64 = 243_247_680;
 // number below 0 is read only at multiples of 8760, as the 1 January of a year before -5000. These are rare: read apart, they cost the
 // others no division.
 pub fn number_fields(s: i32) -> Numbered
-    ensures { λ r. ⌜ ((n : ℕ) → numbered n r ≡ numberFields n s) ⌝ }
+    ensures { λ r. ⌜ ((n : ℕ) → numberedAs n r ≡ numberFields n s) ⌝ }
     ensures { λ r. ⌜ hourIn r < 24 ⌝ }
 {
     let h = sign::halves32(s);
@@ -99,7 +99,7 @@ fn decoded_hour(kind: Kind, hour: u8) -> u8
 fn decode(kind: Kind, year: i16, month: u8, day: u8, hour: u8) -> Made
     requires { ⌜ hour < 24 ⌝ }
     requires { ⌜ (1 ≤ month) × (month ≤ 12) × (1 ≤ day) × (day ≤ daysIn (kindOf kind) month) ⌝ }
-    ensures { λ r. ⌜ answer notNumber r ≡ store (decoded (kindOf kind) (record { year = year; month = month; day = day; hour = hour })) ⌝ }
+    ensures { λ r. ⌜ madeAs notNumber r ≡ store (decoded (kindOf kind) (record { year = year; month = month; day = day; hour = hour })) ⌝ }
 {
     kinds::settle_day(kind, year, month, day, decoded_hour(kind, hour))
 }

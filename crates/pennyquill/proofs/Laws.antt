@@ -10,14 +10,14 @@ use Rattle.rules.proofs.KindLaws.{fit}
 use Rattle.rules.proofs.PackLaws.{handed-back, word-fits}
 use Rattle.rules.proofs.EntryLaws.{code-back, twos-fit, year-back}
 use Rattle.codes.specs.declared.Coded.{Coded}
-use Rattle.codes.specs.Views.{coded}
+use Rattle.codes.specs.Views.{codedAs}
 use Rattle.pennyquill.specs.Boundary.{dateNumber, dateIn}
 
 -- ---- a kind by its code
 
 -- what the code's view says of the answer that it is matched with
-pub by-code : {x : Answer Kind} {r v : Coded} → coded r ≡ x → r ≡ v → x ≡ coded v
-by-code e told = sym e ∙ ap coded told
+pub by-code : {x : Answer Kind} {r v : Coded} → codedAs r ≡ x → r ≡ v → x ≡ codedAs v
+by-code e told = sym e ∙ ap codedAs told
 
 -- the record of a date is by the kind
 pub entry-code : (code : ℕ) {k : Kind} (d : Stored) → kindOfCode code ≡ Gives k → entryFor code d ≡ entryFor (kindCode k) d

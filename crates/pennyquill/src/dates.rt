@@ -4,9 +4,9 @@ ghost use Rattle.rules.specs.Refusals.{notOfKind};
 ghost use Rattle.rules.specs.Kinds.{fromFields};
 ghost use Rattle.rules.specs.Numbers.{readNumber, guessNumber};
 ghost use Rattle.rules.specs.Text.{readText};
-ghost use Rattle.kinds.specs.Views.{answer};
+ghost use Rattle.kinds.specs.Views.{madeAs};
 ghost use Rattle.number.specs.Views.{readAs, guessedAs};
-ghost use Rattle.by_kind.specs.Views.{parsed};
+ghost use Rattle.by_kind.specs.Views.{parsedAs};
 ghost use Rattle.pennyquill.specs.Boundary.{ofKindGiven, bitsCrossed, dateCrossed};
 use crate::PqAnswer;
 use crate::crossing;
@@ -19,7 +19,7 @@ use number::Read;
 // ---- from a text
 
 fn text_crossed(text: Parsed) -> PqAnswer
-    ensures { λ r. ⌜ r ≡ bitsCrossed (parsed text) ⌝ }
+    ensures { λ r. ⌜ r ≡ bitsCrossed (parsedAs text) ⌝ }
 {
     match text {
         Parsed::Date(date) => crossing::gives_date(date),
@@ -87,7 +87,7 @@ pub extern "C" fn pq_guess_number(kind: u32, number: i32) -> PqAnswer
 // ---- from fields
 
 fn made_crossed(made: Made) -> PqAnswer
-    ensures { λ r. ⌜ r ≡ bitsCrossed (answer notOfKind made) ⌝ }
+    ensures { λ r. ⌜ r ≡ bitsCrossed (madeAs notOfKind made) ⌝ }
 {
     match made {
         Made::Date(date) => crossing::gives_date(date),

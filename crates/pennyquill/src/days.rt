@@ -3,9 +3,9 @@ ghost use mathlib.Core.Path.{_≡_};
 ghost use Rattle.rules.specs.Refusals.{Gives};
 ghost use Rattle.rules.specs.Days.{difference, addDays, startOfDay, order};
 ghost use Rattle.rules.specs.Numbers.{writeNumber};
-ghost use Rattle.kinds.specs.Views.{ordered};
+ghost use Rattle.kinds.specs.Views.{orderedAs};
 ghost use Rattle.number.specs.Views.{writtenAs};
-ghost use Rattle.day_count.specs.Views.{summedAs, counted, started};
+ghost use Rattle.day_count.specs.Views.{summedAs, countedAs, startAs};
 ghost use Rattle.pennyquill.specs.Boundary.{ofDateGiven, ofDatesGiven, bitsCrossed, dateCrossed, numberCrossed, orderCrossed};
 use crate::PqAnswer;
 use crate::PqNumber;
@@ -31,7 +31,7 @@ fn sum_crossed(sum: Sum) -> PqAnswer
 }
 
 fn start_crossed(start: Start) -> PqAnswer
-    ensures { λ r. ⌜ r ≡ bitsCrossed (started start) ⌝ }
+    ensures { λ r. ⌜ r ≡ bitsCrossed (startAs start) ⌝ }
 {
     match start {
         Start::Date(date) => crossing::gives_date(date),
@@ -71,7 +71,7 @@ fn written_crossed(written: Written) -> PqNumber
 }
 
 fn days_crossed(days: Days) -> PqNumber
-    ensures { λ r. ⌜ r ≡ numberCrossed (counted days) ⌝ }
+    ensures { λ r. ⌜ r ≡ numberCrossed (countedAs days) ⌝ }
 {
     match days {
         Days::Days(n) => crossing::gives_number(n),
@@ -80,7 +80,7 @@ fn days_crossed(days: Days) -> PqNumber
 }
 
 fn order_crossed(order: Ordered) -> PqNumber
-    ensures { λ r. ⌜ r ≡ orderCrossed (ordered order) ⌝ }
+    ensures { λ r. ⌜ r ≡ orderCrossed (orderedAs order) ⌝ }
 {
     match order {
         Ordered::Before => crossing::gives_number(-1),

@@ -3,7 +3,7 @@ ghost use mathlib.Core.Path.{_≡_};
 ghost use Prim.Native.Nat.{_≤_};
 ghost use Rattle.rules.specs.Refusals.{Gives};
 ghost use Rattle.rules.specs.Spelling.{dotted, iso, isoDateAlone, exchange, putAnswer, putBuffer};
-ghost use Rattle.formatter.specs.Views.{spelled};
+ghost use Rattle.formatter.specs.Views.{spelledAs};
 ghost use Rattle.pennyquill.specs.Boundary.{ofDateGiven, crossed, numberOf};
 use crate::PqAnswer;
 use crate::crossing;
@@ -11,8 +11,8 @@ use codes::Coded;
 use formatter::Spelled;
 
 fn text_crossed(text: Spelled) -> PqAnswer
-    requires { ⌜ numberOf (spelled text) ≤ 4096 ⌝ }
-    ensures { λ r. ⌜ r ≡ crossed (spelled text) ⌝ }
+    requires { ⌜ numberOf (spelledAs text) ≤ 4096 ⌝ }
+    ensures { λ r. ⌜ r ≡ crossed (spelledAs text) ⌝ }
 {
     match text {
         Spelled::Length(n) => crossing::gives(n as u32),

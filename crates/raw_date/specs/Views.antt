@@ -13,15 +13,15 @@ use Rattle.raw_date.specs.declared.Decoded.the-variants as D
 abbrev pub bits : RawDate → Stored
 bits d = bitsOf (d .raw)
 
-abbrev pub made : Made → Answer Stored
-made (M.Date d) = Gives (bits d)
-made M.NotOfKind = Refused notOfKind
+abbrev pub madeAs : Made → Answer Stored
+madeAs (M.Date d) = Gives (bits d)
+madeAs M.NotOfKind = Refused notOfKind
 
-abbrev pub parsed : Parsed → Answer Stored
-parsed (P.Date d) = Gives (bits d)
-parsed P.TooLong = Refused tooLong
-parsed P.NotText = Refused notText
+abbrev pub parsedAs : Parsed → Answer Stored
+parsedAs (P.Date d) = Gives (bits d)
+parsedAs P.TooLong = Refused tooLong
+parsedAs P.NotText = Refused notText
 
-abbrev pub decoded : Decoded → Answer Stored
-decoded (D.Date d) = Gives (bits d)
-decoded D.NotNumber = Refused notNumber
+abbrev pub decodedAs : Decoded → Answer Stored
+decodedAs (D.Date d) = Gives (bits d)
+decodedAs D.NotNumber = Refused notNumber

@@ -8,9 +8,9 @@ ghost use Rattle.rules.specs.Numbers.{readNumber};
 ghost use Rattle.rules.specs.Days.{order};
 ghost use Rattle.rules.specs.Text.{readText};
 ghost use Rattle.rules.specs.Spelling.{dotted, iso, exchange, putAnswer, putBuffer};
-ghost use Rattle.kinds.specs.Views.{ordered};
-ghost use Rattle.formatter.specs.Views.{spelled, lengthOf};
-ghost use Rattle.raw_date.specs.Views.{bits, made, parsed, decoded};
+ghost use Rattle.kinds.specs.Views.{orderedAs};
+ghost use Rattle.formatter.specs.Views.{spelledAs, lengthOf};
+ghost use Rattle.raw_date.specs.Views.{bits, madeAs, parsedAs, decodedAs};
 use formatter::Spelled;
 use kinds::Kind;
 use kinds::Ordered;
@@ -68,7 +68,7 @@ impl RawDate {
     }
 
     pub fn from_ymdh_opt(year: i16, month: u8, day: u8, hour: u8) -> Made
-        ensures { λ r. ⌜ made r ≡ store (fromFields kR (record { year = year; month = month; day = day; hour = hour })) ⌝ }
+        ensures { λ r. ⌜ madeAs r ≡ store (fromFields kR (record { year = year; month = month; day = day; hour = hour })) ⌝ }
     {
         let made = kinds::make(Kind::Raw, year, month, day, hour);
         match made {
@@ -103,7 +103,7 @@ impl RawDate {
     }
 
     pub fn parse(s: &[u8]) -> Parsed
-        ensures { λ r. ⌜ parsed r ≡ store (readText kR (now (s .entry))) ⌝ }
+        ensures { λ r. ⌜ parsedAs r ≡ store (readText kR (now (s .entry))) ⌝ }
     {
         if reading::TEXT_LIMIT < s.len() {
             return Parsed::TooLong;
@@ -120,7 +120,7 @@ impl RawDate {
 
     // For a field that is declared as a date.
     pub fn from_binary(s: i32) -> Decoded
-        ensures { λ r. ⌜ decoded r ≡ store (readNumber kR s) ⌝ }
+        ensures { λ r. ⌜ decodedAs r ≡ store (readNumber kR s) ⌝ }
     {
         let read = number::from_binary(Kind::Raw, s);
         match read {
@@ -130,14 +130,14 @@ impl RawDate {
     }
 
     pub fn compare(self, other: RawDate) -> Ordered
-        ensures { λ r. ⌜ ordered r ≡ ofDates kR (bits self) (bits other) (λ f g. Gives (order f g)) ⌝ }
+        ensures { λ r. ⌜ orderedAs r ≡ ofDates kR (bits self) (bits other) (λ f g. Gives (order f g)) ⌝ }
     {
         kinds::compare(Kind::Raw, self.raw, other.raw)
     }
 
     // The dotted text at the front of a buffer.
     pub fn game_fmt(self, out: &mut [u8]) -> Spelled
-        ensures { λ r. ⌜ spelled r ≡ putAnswer (ofDate kR (bits self) (λ f. Gives (dotted kR f))) (now (out .entry)) ⌝ }
+        ensures { λ r. ⌜ spelledAs r ≡ putAnswer (ofDate kR (bits self) (λ f. Gives (dotted kR f))) (now (out .entry)) ⌝ }
         ensures { λ _. ⌜ now (out .exit) ≡ putBuffer (ofDate kR (bits self) (λ f. Gives (dotted kR f))) (now (out .entry)) ⌝ }
         ensures { λ r. ⌜ lengthOf r ≤ length (now (out .entry)) ⌝ }
     {
@@ -146,7 +146,7 @@ impl RawDate {
 
     // The ISO text.
     pub fn iso_8601(self, out: &mut [u8]) -> Spelled
-        ensures { λ r. ⌜ spelled r ≡ putAnswer (ofDate kR (bits self) (λ f. Gives (iso kR f))) (now (out .entry)) ⌝ }
+        ensures { λ r. ⌜ spelledAs r ≡ putAnswer (ofDate kR (bits self) (λ f. Gives (iso kR f))) (now (out .entry)) ⌝ }
         ensures { λ _. ⌜ now (out .exit) ≡ putBuffer (ofDate kR (bits self) (λ f. Gives (iso kR f))) (now (out .entry)) ⌝ }
         ensures { λ r. ⌜ lengthOf r ≤ length (now (out .entry)) ⌝ }
     {
@@ -155,7 +155,7 @@ impl RawDate {
 
     // The exchange text.
     pub fn exchange(self, out: &mut [u8]) -> Spelled
-        ensures { λ r. ⌜ spelled r ≡ putAnswer (ofDate kR (bits self) (λ f. Gives (exchange kR f))) (now (out .entry)) ⌝ }
+        ensures { λ r. ⌜ spelledAs r ≡ putAnswer (ofDate kR (bits self) (λ f. Gives (exchange kR f))) (now (out .entry)) ⌝ }
         ensures { λ _. ⌜ now (out .exit) ≡ putBuffer (ofDate kR (bits self) (λ f. Gives (exchange kR f))) (now (out .entry)) ⌝ }
         ensures { λ r. ⌜ lengthOf r ≤ length (now (out .entry)) ⌝ }
     {

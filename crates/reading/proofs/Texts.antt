@@ -21,10 +21,10 @@ use Rattle.rules.specs.Text.{Read, readsNumberTexts, numberText, shapeAllowed, 
 use Rattle.rules.proofs.AnswerLaws.{Told, gives, refuses, told-part}
 use Rattle.rules.proofs.RefusalLaws.{text-long}
 use Rattle.scalar.specs.Number.{most63, leadingNumber}
-use Rattle.scalar.specs.Views.{led}
+use Rattle.scalar.specs.Views.{leadingAs}
 use Rattle.scalar.specs.declared.Leading.{Leading}
 use Rattle.scalar.specs.declared.Leading.the-variants as L
-use Rattle.kinds.specs.Views.{answer}
+use Rattle.kinds.specs.Views.{madeAs}
 use Rattle.kinds.specs.declared.Made.{Made}
 
 -- ---- a leading number of more than 63 bits is no year and no number text
@@ -108,13 +108,13 @@ module _ (k : Kind) (s : List ℕ) where
       with-leading r e = reads ∙ lead-some k (leading s) r e
 
       -- what the code answers, from what its two calls ensure: a refused leading number ends the reading, else the rest decides
-      module _ {lead : Leading} (is-led : led s lead ≡ leadingNumber s) where
+      module _ {lead : Leading} (is-led : leadingAs s lead ≡ leadingNumber s) where
         pub lead-refused : lead ≡ L.Refused → Refused notText ≡ textDate
-        lead-refused e = sym (no-leading (sym is-led ∙ ap (led s) e))
+        lead-refused e = sym (no-leading (sym is-led ∙ ap (leadingAs s) e))
 
         -- the number comes to the second call as its 64 bits
         pub rest-read : {v : ℤ} {next : ℕ} {read r : Made} → lead ≡ L.Number v next → mag v < 2 ^ hbits w64 →
-            answer notText read ≡ store (textFields k (record { value = toZ w64 (ofZ w64 v); rest = drop next s }) then λ f. settled k notText f) →
-            read ≡ r → answer notText r ≡ textDate
+            madeAs notText read ≡ store (textFields k (record { value = toZ w64 (ofZ w64 v); rest = drop next s }) then λ f. settled k notText f) →
+            read ≡ r → madeAs notText r ≡ textDate
         rest-read {v = v} e fit64 is-read same =
-            ap (answer notText) (sym same) ∙ (rw (held w64 {z = v} fit64) at is-read) ∙ sym (with-leading _ (sym is-led ∙ ap (led s) e))
+            ap (madeAs notText) (sym same) ∙ (rw (held w64 {z = v} fit64) at is-read) ∙ sym (with-leading _ (sym is-led ∙ ap (leadingAs s) e))

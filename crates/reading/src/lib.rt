@@ -5,7 +5,7 @@ ghost use Rattle.rules.specs.Words.{fits32};
 ghost use Rattle.rules.specs.Refusals.{_then_, notText};
 ghost use Rattle.rules.specs.Kinds.{settled, store};
 ghost use Rattle.rules.specs.Text.{readsNumberTexts, numberText, dottedPart, textFields};
-ghost use Rattle.kinds.specs.Views.{kindOf, answer};
+ghost use Rattle.kinds.specs.Views.{kindOf, madeAs};
 use dotted::Parts;
 use kinds::Kind;
 use kinds::Made;
@@ -40,7 +40,7 @@ pub fn fits32(value: i64) -> bool
 
 // A number text, its hour unchanged. The number must fit 32 bits.
 fn number_text(kind: Kind, value: i64) -> Made
-    ensures { λ r. ⌜ answer notText r ≡ store (numberText (kindOf kind) value then λ f. settled (kindOf kind) notText f) ⌝ }
+    ensures { λ r. ⌜ madeAs notText r ≡ store (numberText (kindOf kind) value then λ f. settled (kindOf kind) notText f) ⌝ }
 {
     if reads_number_texts(kind) {
         if fits32(value) {
@@ -55,7 +55,7 @@ fn number_text(kind: Kind, value: i64) -> Made
 
 // The dotted part, after a year that must fit 16 bits.
 fn dotted_text(kind: Kind, s: &[u8], value: i64, next: usize) -> Made
-    ensures { λ r. ⌜ answer notText r ≡ store (dottedPart value (drop next (now (s .entry))) then λ f. settled (kindOf kind) notText f) ⌝ }
+    ensures { λ r. ⌜ madeAs notText r ≡ store (dottedPart value (drop next (now (s .entry))) then λ f. settled (kindOf kind) notText f) ⌝ }
 {
     let Parts::Fields { month, day, hour } = dotted::dotted_part(s, next) else {
         return Made::None;
@@ -71,7 +71,7 @@ fn dotted_text(kind: Kind, s: &[u8], value: i64, next: usize) -> Made
 
 // The date of a text whose leading number is `value`, with the rest from `next` on.
 pub fn read_rest(kind: Kind, s: &[u8], value: i64, next: usize) -> Made
-    ensures { λ r. ⌜ answer notText r ≡ store (textFields (kindOf kind) (record { value = value; rest = drop next (now (s .entry)) }) then λ f. settled (kindOf kind) notText f) ⌝ }
+    ensures { λ r. ⌜ madeAs notText r ≡ store (textFields (kindOf kind) (record { value = value; rest = drop next (now (s .entry)) }) then λ f. settled (kindOf kind) notText f) ⌝ }
 {
     if s.len() <= next {
         return number_text(kind, value);

@@ -26,15 +26,15 @@ pub data LeafValue : Type 0 where
   Unasked : LeafValue
   Counted : ℤ → LeafValue
 
-abbrev pub leafTold : LeafTold → Answer LeafValue
-leafTold (T.Leading value rest) = Gives (Led value rest)
-leafTold T.NoLeading = Refused notText
-leafTold (T.Digits value) = Gives (Digits value)
-leafTold T.NoDigits = Gives NoDigits
-leafTold (T.MonthDay month day) = Gives (InMonth month day)
-leafTold T.Unasked = Gives Unasked
-leafTold (T.Number n) = Gives (Counted n)
-leafTold T.NoMonth = Refused notOfKind
+abbrev pub leafToldAs : LeafTold → Answer LeafValue
+leafToldAs (T.Leading value rest) = Gives (Led value rest)
+leafToldAs T.NoLeading = Refused notText
+leafToldAs (T.Digits value) = Gives (Digits value)
+leafToldAs T.NoDigits = Gives NoDigits
+leafToldAs (T.MonthDay month day) = Gives (InMonth month day)
+leafToldAs T.Unasked = Gives Unasked
+leafToldAs (T.Number n) = Gives (Counted n)
+leafToldAs T.NoMonth = Refused notOfKind
 
 -- the leading number of a text, and how many bytes follow it
 abbrev pub leadingAnswer : List ℕ → Answer LeafValue

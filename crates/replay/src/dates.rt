@@ -6,7 +6,7 @@ ghost use Rattle.rules.specs.Refusals.{Gives};
 ghost use Rattle.rules.specs.Kinds.{unpacked, ofDate};
 ghost use Rattle.rules.specs.Spelling.{dotted, iso, exchange, putAnswer, putBuffer};
 ghost use Rattle.kinds.specs.Views.{kindOf, fieldsOf, bitsOf};
-ghost use Rattle.formatter.specs.Views.{spelled, lengthOf};
+ghost use Rattle.formatter.specs.Views.{spelledAs, lengthOf};
 use date::Date;
 use date_hour::DateHour;
 use eu5_date::Eu5Date;
@@ -62,7 +62,7 @@ pub(crate) fn shown(kind: Kind, raw: Packed) -> ExpandedRawDate
 }
 
 pub(crate) fn game_fmt(kind: Kind, raw: Packed, out: &mut [u8]) -> Spelled
-    ensures { λ r. ⌜ spelled r ≡ putAnswer (ofDate (kindOf kind) (bitsOf raw) (λ f. Gives (dotted (kindOf kind) f))) (now (out .entry)) ⌝ }
+    ensures { λ r. ⌜ spelledAs r ≡ putAnswer (ofDate (kindOf kind) (bitsOf raw) (λ f. Gives (dotted (kindOf kind) f))) (now (out .entry)) ⌝ }
     ensures { λ _. ⌜ now (out .exit) ≡ putBuffer (ofDate (kindOf kind) (bitsOf raw) (λ f. Gives (dotted (kindOf kind) f))) (now (out .entry)) ⌝ }
     ensures { λ r. ⌜ lengthOf r ≤ length (now (out .entry)) ⌝ }
 {
@@ -77,7 +77,7 @@ pub(crate) fn game_fmt(kind: Kind, raw: Packed, out: &mut [u8]) -> Spelled
 }
 
 pub(crate) fn iso_8601(kind: Kind, raw: Packed, out: &mut [u8]) -> Spelled
-    ensures { λ r. ⌜ spelled r ≡ putAnswer (ofDate (kindOf kind) (bitsOf raw) (λ f. Gives (iso (kindOf kind) f))) (now (out .entry)) ⌝ }
+    ensures { λ r. ⌜ spelledAs r ≡ putAnswer (ofDate (kindOf kind) (bitsOf raw) (λ f. Gives (iso (kindOf kind) f))) (now (out .entry)) ⌝ }
     ensures { λ _. ⌜ now (out .exit) ≡ putBuffer (ofDate (kindOf kind) (bitsOf raw) (λ f. Gives (iso (kindOf kind) f))) (now (out .entry)) ⌝ }
     ensures { λ r. ⌜ lengthOf r ≤ length (now (out .entry)) ⌝ }
 {
@@ -92,7 +92,7 @@ pub(crate) fn iso_8601(kind: Kind, raw: Packed, out: &mut [u8]) -> Spelled
 }
 
 pub(crate) fn exchange(kind: Kind, raw: Packed, out: &mut [u8]) -> Spelled
-    ensures { λ r. ⌜ spelled r ≡ putAnswer (ofDate (kindOf kind) (bitsOf raw) (λ f. Gives (exchange (kindOf kind) f))) (now (out .entry)) ⌝ }
+    ensures { λ r. ⌜ spelledAs r ≡ putAnswer (ofDate (kindOf kind) (bitsOf raw) (λ f. Gives (exchange (kindOf kind) f))) (now (out .entry)) ⌝ }
     ensures { λ _. ⌜ now (out .exit) ≡ putBuffer (ofDate (kindOf kind) (bitsOf raw) (λ f. Gives (exchange (kindOf kind) f))) (now (out .entry)) ⌝ }
     ensures { λ r. ⌜ lengthOf r ≤ length (now (out .entry)) ⌝ }
 {

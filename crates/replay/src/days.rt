@@ -1,6 +1,6 @@
 // What the kinds' own methods on dates answer: additions, differences, the number of a date, the order of two.
 ghost use mathlib.Core.Path.{_≡_};
-ghost use Rattle.kinds.specs.Views.{kindOf, ordered};
+ghost use Rattle.kinds.specs.Views.{kindOf, orderedAs};
 ghost use Rattle.day_count.specs.Views as days;
 ghost use Rattle.number.specs.Views.{writtenAs};
 ghost use Rattle.date.specs.Views as date;
@@ -116,7 +116,7 @@ pub(crate) fn binary(kind: Kind, raw: Packed) -> Told
 
 // As the original's `cmp` has it: -1, 0 or 1.
 fn order_told(answer: Ordered) -> Told
-    ensures { λ r. ⌜ toldAs r ≡ ordering (ordered answer) ⌝ }
+    ensures { λ r. ⌜ toldAs r ≡ ordering (orderedAs answer) ⌝ }
 {
     match answer {
         Ordered::Before => Told::Number(-1),

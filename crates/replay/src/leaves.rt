@@ -1,7 +1,7 @@
 // The functions below the kinds, and what each answers in one type, as the original's counts it.
 ghost use mathlib.Core.Path.{_≡_};
 ghost use Prim.Native.Nat.{_-_};
-ghost use Rattle.replay.specs.Leaves.{leafTold, leadingAnswer, digitsAnswer, monthDayAnswer, ordinalAnswer, binaryAnswer};
+ghost use Rattle.replay.specs.Leaves.{leafToldAs, leadingAnswer, digitsAnswer, monthDayAnswer, ordinalAnswer, binaryAnswer};
 use julian::FirstDay;
 use scalar::Leading;
 use util::Parsed;
@@ -20,7 +20,7 @@ pub(crate) enum LeafTold {
 
 // The leading number of a text, and how many bytes follow it.
 pub(crate) fn leading(text: &[u8]) -> LeafTold
-    ensures { λ r. ⌜ leafTold r ≡ leadingAnswer (now (text .entry)) ⌝ }
+    ensures { λ r. ⌜ leafToldAs r ≡ leadingAnswer (now (text .entry)) ⌝ }
 {
     let Leading::Number { value, next } = scalar::to_i64_t(text) else {
         return LeafTold::NoLeading;
@@ -32,7 +32,7 @@ pub(crate) fn leading(text: &[u8]) -> LeafTold
 }
 
 pub(crate) fn digits(word: u64) -> LeafTold
-    ensures { λ r. ⌜ leafTold r ≡ digitsAnswer word ⌝ }
+    ensures { λ r. ⌜ leafToldAs r ≡ digitsAnswer word ⌝ }
 {
     let parsed = util::fast_digit_parse(word);
     match parsed {
@@ -42,7 +42,7 @@ pub(crate) fn digits(word: u64) -> LeafTold
 }
 
 pub(crate) fn month_day(day: u16) -> LeafTold
-    ensures { λ r. ⌜ leafTold r ≡ monthDayAnswer day ⌝ }
+    ensures { λ r. ⌜ leafToldAs r ≡ monthDayAnswer day ⌝ }
 {
     if day < 365 {
         let d = julian::month_day_from_julian(day);
@@ -56,7 +56,7 @@ pub(crate) fn month_day(day: u16) -> LeafTold
 
 // The original's count is one less than ours, since its days start at 1.
 pub(crate) fn ordinal(month: u8) -> LeafTold
-    ensures { λ r. ⌜ leafTold r ≡ ordinalAnswer month ⌝ }
+    ensures { λ r. ⌜ leafToldAs r ≡ ordinalAnswer month ⌝ }
 {
     let FirstDay::Day(first) = julian::julian_ordinal_day(month) else {
         return LeafTold::NoMonth;
@@ -66,7 +66,7 @@ pub(crate) fn ordinal(month: u8) -> LeafTold
 
 // The original takes the hour from 1 and lowers it, 0 excepted; ours takes it from 0.
 pub(crate) fn binary(year: i16, day: u16, hour: u8) -> LeafTold
-    ensures { λ r. ⌜ leafTold r ≡ binaryAnswer year day hour ⌝ }
+    ensures { λ r. ⌜ leafToldAs r ≡ binaryAnswer year day hour ⌝ }
 {
     LeafTold::Number(julian::to_binary(year, day, lowered(hour)))
 }

@@ -11,16 +11,16 @@ use Rattle.rules.proofs.AnswerLaws.{Told, gives, Any, told-then, told-refusal}
 use Rattle.rules.proofs.RefusalLaws.{RefusedBy, date-told, one-digit-by}
 use Rattle.request.specs.declared.Asked.{Asked}
 use Rattle.request.specs.declared.Asked.the-variants as A
-use Rattle.request.specs.Views.{asked, refusalIn}
+use Rattle.request.specs.Views.{askedAs, refusalIn}
 
 module _ (k : Kind) (w : Way) (rest : List ℕ) (has : hasWay k w ≡ true) where
   told : Told (RefusedBy w) Any (store (dateBy w k rest))
   told = told-then (date-told w k rest has) (λ f. gives tt)
 
-  one-digit : (r : Asked) → asked r ≡ store (dateBy w k rest) → refusalIn r < 10
+  one-digit : (r : Asked) → askedAs r ≡ store (dateBy w k rest) → refusalIn r < 10
   one-digit (A.Date p) e = omega arith
   one-digit (A.Refused n) e = one-digit-by w n (told-refusal told (sym e))
 
   -- what the reader of the way answers is what the line is answered, and its refusal has one digit
-  pub by-way : {v : Way} (r : Asked) → w ≡ v → asked r ≡ store (dateBy v k rest) → (asked r ≡ store (dateBy w k rest)) × (refusalIn r < 10)
+  pub by-way : {v : Way} (r : Asked) → w ≡ v → askedAs r ≡ store (dateBy v k rest) → (askedAs r ≡ store (dateBy w k rest)) × (refusalIn r < 10)
   by-way r e q = let p = q ∙ ap (λ (x : Way). store (dateBy x k rest)) (sym e) in (p, one-digit r p)

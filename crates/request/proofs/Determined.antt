@@ -13,7 +13,7 @@ use Rattle.request.specs.declared.Request.{Request}
 use Rattle.request.specs.declared.Request.the-variants as R
 use Rattle.request.specs.declared.Asked.the-variants as A
 use Rattle.request.specs.declared.numeral.Numeral.the-variants as N
-use Rattle.request.specs.Views.{wayOf, asks, numeralOf, asked}
+use Rattle.request.specs.Views.{wayOf, requestAs, numeralAs, askedAs}
 
 abbrev wayBack : L.Way → Way
 wayBack L.byText = W.Text
@@ -26,16 +26,16 @@ way-back w = elim w [ W.Text ↦ refl | W.Number ↦ refl | W.Guess ↦ refl ]
 abbrev requestBack : Answer L.Line → Request
 requestBack = backOne (λ (l : L.Line). R.Ask (kindBack (l .kind)) (wayBack (l .way))) R.Unreadable
 
-request-back : (s : List ℕ) (r : Request) → requestBack (asks s r) ≡ r
+request-back : (s : List ℕ) (r : Request) → requestBack (requestAs s r) ≡ r
 request-back s (R.Ask k w) = λ i. R.Ask (kind-back k i) (way-back w i)
 request-back s R.Unreadable = refl
 
 -- of a line s
-pub asks-determined : (s : List ℕ) → Determines (asks s)
-asks-determined s = determined (asks s) requestBack (request-back s)
+pub asks-determined : (s : List ℕ) → Determines (requestAs s)
+asks-determined s = determined (requestAs s) requestBack (request-back s)
 
-pub numeral-determined : Determines numeralOf
-numeral-determined = determined numeralOf (backOne N.Value N.None) (λ r. elim r [ N.Value n ↦ refl | N.None ↦ refl ])
+pub numeral-determined : Determines numeralAs
+numeral-determined = determined numeralAs (backOne N.Value N.None) (λ r. elim r [ N.Value n ↦ refl | N.None ↦ refl ])
 
-pub asked-determined : Determines asked
-asked-determined = determined asked (backBy (λ d. A.Date (packedOf d)) A.Refused) (λ r. elim r [ A.Date d ↦ refl | A.Refused n ↦ refl ])
+pub asked-determined : Determines askedAs
+asked-determined = determined askedAs (backBy (λ d. A.Date (packedOf d)) A.Refused) (λ r. elim r [ A.Date d ↦ refl | A.Refused n ↦ refl ])

@@ -14,8 +14,8 @@ use Rattle.request.specs.declared.Request.{Request}
 use Rattle.request.specs.declared.Request.the-variants as R
 use Rattle.request.specs.declared.Asked.{Asked}
 use Rattle.request.specs.declared.Asked.the-variants as A
-use Rattle.request.specs.declared.line.Marked.{Marked}
-use Rattle.request.specs.declared.line.Marked.the-variants as M
+use Rattle.request.specs.declared.line.WayRead.{WayRead}
+use Rattle.request.specs.declared.line.WayRead.the-variants as M
 use Rattle.request.specs.declared.numeral.Numeral.{Numeral}
 use Rattle.request.specs.declared.numeral.Numeral.the-variants as N
 
@@ -26,14 +26,14 @@ wayOf W.Text = L.byText
 wayOf W.Number = L.byNumber
 wayOf W.Guess = L.byGuess
 
-abbrev pub marked : Marked → Answer L.Way
-marked (M.Way w) = Gives (wayOf w)
-marked M.None = Refused unreadableLine
+abbrev pub wayAs : WayRead → Answer L.Way
+wayAs (M.Way w) = Gives (wayOf w)
+wayAs M.None = Refused unreadableLine
 
 -- what the line s asks for
-abbrev pub asks : List ℕ → Request → Answer L.Line
-asks s (R.Ask k w) = Gives (record { kind = kindOf k; way = wayOf w; rest = drop 4 s })
-asks s R.Unreadable = Refused unreadableLine
+abbrev pub requestAs : List ℕ → Request → Answer L.Line
+requestAs s (R.Ask k w) = Gives (record { kind = kindOf k; way = wayOf w; rest = drop 4 s })
+requestAs s R.Unreadable = Refused unreadableLine
 
 -- for the callers: the kind that is asked for has that way, and the rest starts within the line
 abbrev pub hasWayIn : Request → Bool
@@ -46,13 +46,13 @@ restAt R.Unreadable = 0
 
 -- ---- its number, and its date
 
-abbrev pub numeralOf : Numeral → Answer ℤ
-numeralOf (N.Value n) = Gives n
-numeralOf N.None = Refused notText
+abbrev pub numeralAs : Numeral → Answer ℤ
+numeralAs (N.Value n) = Gives n
+numeralAs N.None = Refused notText
 
-abbrev pub asked : Asked → Answer K.Stored
-asked (A.Date p) = Gives (bitsOf p)
-asked (A.Refused n) = Refused n
+abbrev pub askedAs : Asked → Answer K.Stored
+askedAs (A.Date p) = Gives (bitsOf p)
+askedAs (A.Refused n) = Refused n
 
 -- for the callers: the refusal's number
 abbrev pub refusalIn : Asked → ℕ

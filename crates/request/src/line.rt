@@ -5,25 +5,25 @@ ghost use Prim.Native.Nat.{_≤_};
 ghost use lib.ListN.{length};
 ghost use Rattle.rules.specs.Listing.{wayOfLetter, hasWay, readLine};
 ghost use Rattle.kinds.specs.Views.{kindOf};
-ghost use Rattle.request.specs.Views.{wayOf, marked, asks, hasWayIn, restAt};
+ghost use Rattle.request.specs.Views.{wayOf, wayAs, requestAs, hasWayIn, restAt};
 use crate::Request;
 use crate::Way;
 use codes::Lettered;
 use kinds::Kind;
 
-enum Marked {
+enum WayRead {
     Way(Way),
     None,
 }
 
-fn way_of_letter(b: u8) -> Marked
-    ensures { λ r. ⌜ marked r ≡ wayOfLetter b ⌝ }
+fn way_of_letter(b: u8) -> WayRead
+    ensures { λ r. ⌜ wayAs r ≡ wayOfLetter b ⌝ }
 {
     match b {
-        b't' => Marked::Way(Way::Text),
-        b'b' => Marked::Way(Way::Number),
-        b'g' => Marked::Way(Way::Guess),
-        _ => Marked::None,
+        b't' => WayRead::Way(Way::Text),
+        b'b' => WayRead::Way(Way::Number),
+        b'g' => WayRead::Way(Way::Guess),
+        _ => WayRead::None,
     }
 }
 
@@ -39,7 +39,7 @@ fn has_way(kind: Kind, way: Way) -> bool
 
 // The kind and the way that a line names, where that kind has that way.
 pub fn read_line(s: &[u8]) -> Request
-    ensures { λ r. ⌜ asks (now (s .entry)) r ≡ readLine (now (s .entry)) ⌝ }
+    ensures { λ r. ⌜ requestAs (now (s .entry)) r ≡ readLine (now (s .entry)) ⌝ }
     ensures { λ r. ⌜ hasWayIn r ≡ true ⌝ }
     ensures { λ r. ⌜ restAt r ≤ length (now (s .entry)) ⌝ }
 {
@@ -55,7 +55,7 @@ pub fn read_line(s: &[u8]) -> Request
     let Lettered::Kind(kind) = codes::kind_of_letter(s[0]) else {
         return Request::Unreadable;
     };
-    let Marked::Way(way) = way_of_letter(s[2]) else {
+    let WayRead::Way(way) = way_of_letter(s[2]) else {
         return Request::Unreadable;
     };
     if has_way(kind, way) {

@@ -4,7 +4,7 @@ ghost use lib.ListN.{drop};
 ghost use Rattle.rules.specs.Words.{within};
 ghost use Rattle.rules.specs.Listing.{lineNumber};
 ghost use Rattle.request.specs.Numerals.{fewDigits, whole};
-ghost use Rattle.request.specs.Views.{numeralOf};
+ghost use Rattle.request.specs.Views.{numeralAs};
 use scalar::Leading;
 
 // A number of 32 bits, or none.
@@ -40,7 +40,7 @@ fn few_digits(t: &[u8]) -> bool
 }
 
 fn whole32(value: i64) -> Numeral
-    ensures { λ r. ⌜ numeralOf r ≡ whole value ⌝ }
+    ensures { λ r. ⌜ numeralAs r ≡ whole value ⌝ }
 {
     if reading::fits32(value) {
         return Numeral::Value(sign::narrow32(value));
@@ -50,7 +50,7 @@ fn whole32(value: i64) -> Numeral
 
 // A whole text as a number.
 fn text_number(t: &[u8]) -> Numeral
-    ensures { λ r. ⌜ numeralOf r ≡ lineNumber (now (t .entry)) ⌝ }
+    ensures { λ r. ⌜ numeralAs r ≡ lineNumber (now (t .entry)) ⌝ }
 {
     if few_digits(t) {
         let Leading::Number { value, next } = scalar::to_i64_t(t) else {
@@ -66,7 +66,7 @@ fn text_number(t: &[u8]) -> Numeral
 
 // The number that stands from a place on, to the end.
 pub fn number(s: &[u8], from: usize) -> Numeral
-    ensures { λ r. ⌜ numeralOf r ≡ lineNumber (drop from (now (s .entry))) ⌝ }
+    ensures { λ r. ⌜ numeralAs r ≡ lineNumber (drop from (now (s .entry))) ⌝ }
 {
     if s.len() <= from {
         return Numeral::None;

@@ -12,8 +12,8 @@ use Rattle.rows.specs.declared.Whole.{Whole}
 abbrev pub nowhere : ℕ
 nowhere = 18446744073709551615
 
-abbrev pub number : List ℕ → Number → R.Number
-number s n = record { up = n .up; dn = n .dn; rest = drop (n .next) s }
+abbrev pub numberAs : List ℕ → Number → R.Number
+numberAs s n = record { up = n .up; dn = n .dn; rest = drop (n .next) s }
 
-abbrev pub wholeRead : List ℕ → Whole → Read ℤ
-wholeRead s w = record { value = w .value; rest = drop (w .next) s }
+abbrev pub wholeAs : List ℕ → Whole → Read ℤ
+wholeAs s w = record { value = w .value; rest = drop (w .next) s }

@@ -4,7 +4,7 @@ ghost use mathlib.Core.Path.{_≡_};
 ghost use Prim.Native.Nat.{_+_, _<_, _≤_};
 ghost use lib.ListN.{length, drop};
 ghost use Rattle.rows.specs.Rows.{firstByte, afterByte, afterWord, endsRow, noNumber, rowDigits, numbered, startsWithDigit, naturalOf, signedOf, wholeOf, rowLength};
-ghost use Rattle.rows.specs.Views.{number, wholeRead};
+ghost use Rattle.rows.specs.Views.{numberAs, wholeAs};
 
 // A place past the end of every slice.
 pub const NOWHERE: usize = 0xffff_ffff_ffff_ffff;
@@ -85,7 +85,7 @@ pub fn ends(s: &[u8], at: usize) -> bool
 }
 
 fn nothing(s: &[u8]) -> Number
-    ensures { λ r. ⌜ number (now (s .entry)) r ≡ noNumber ⌝ }
+    ensures { λ r. ⌜ numberAs (now (s .entry)) r ≡ noNumber ⌝ }
 {
     Number {
         up: 0,
@@ -108,7 +108,7 @@ fn digit_at(s: &[u8], at: usize) -> bool
 
 // The digits from a place on, of a value of at most 18 digits.
 fn digits(s: &[u8], from: usize) -> Number
-    ensures { λ r. ⌜ number (now (s .entry)) r ≡ numbered (rowDigits 0 (drop from (now (s .entry)))) ⌝ }
+    ensures { λ r. ⌜ numberAs (now (s .entry)) r ≡ numbered (rowDigits 0 (drop from (now (s .entry)))) ⌝ }
 {
     let mut value: u64 = 0;
     let mut at = from;
@@ -138,7 +138,7 @@ fn found(up: u64, next: usize) -> Number
 
 // At least one digit.
 pub fn natural(s: &[u8], at: usize) -> Number
-    ensures { λ r. ⌜ number (now (s .entry)) r ≡ naturalOf (drop at (now (s .entry))) ⌝ }
+    ensures { λ r. ⌜ numberAs (now (s .entry)) r ≡ naturalOf (drop at (now (s .entry))) ⌝ }
 {
     if digit_at(s, at) {
         return digits(s, at);
@@ -148,7 +148,7 @@ pub fn natural(s: &[u8], at: usize) -> Number
 
 // Digits, with or without a minus.
 pub fn signed(s: &[u8], at: usize) -> Number
-    ensures { λ r. ⌜ number (now (s .entry)) r ≡ signedOf (drop at (now (s .entry))) ⌝ }
+    ensures { λ r. ⌜ numberAs (now (s .entry)) r ≡ signedOf (drop at (now (s .entry))) ⌝ }
 {
     if byte(s, at) == b'-' {
         let n = natural(s, after(s, at, b'-'));
@@ -165,7 +165,7 @@ pub fn signed(s: &[u8], at: usize) -> Number
 
 // A number of 32 bits.
 pub fn whole32(s: &[u8], at: usize) -> Whole
-    ensures { λ r. ⌜ wholeRead (now (s .entry)) r ≡ wholeOf (drop at (now (s .entry))) ⌝ }
+    ensures { λ r. ⌜ wholeAs (now (s .entry)) r ≡ wholeOf (drop at (now (s .entry))) ⌝ }
 {
     let n = signed(s, at);
     let up = n.up;

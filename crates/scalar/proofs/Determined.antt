@@ -11,17 +11,17 @@ use Rattle.rules.specs.Text.{Read}
 use Rattle.rules.proofs.ReadBack.{same-back, backOne}
 use Rattle.scalar.specs.declared.Leading.{Leading}
 use Rattle.scalar.specs.declared.Leading.the-variants as L
-use Rattle.scalar.specs.Views.{led, nextOf}
+use Rattle.scalar.specs.Views.{leadingAs, nextOf}
 
 module _ (s : List ℕ) where
   -- a rest of s starts where its length is left
   abbrev ledBack : Answer (Read ℤ) → Leading
   ledBack = backOne (λ (r : Read ℤ). L.Number (r .value) (length s - length (r .rest))) L.Refused
 
-  led-back : (r : Leading) → nextOf r ≤ length s → ledBack (led s r) ≡ r
+  led-back : (r : Leading) → nextOf r ≤ length s → ledBack (leadingAs s r) ≡ r
   led-back (L.Number value next) h = ap (L.Number value) (omega (arith, length-drop next s))
   led-back L.Refused h = refl
 
   pub led-determined : (r q : Leading) (x : Answer (Read ℤ)) →
-      (led s r ≡ x) × (nextOf r ≤ length s) → (led s q ≡ x) × (nextOf q ≤ length s) → r ≡ q
-  led-determined r q x e f = same-back (led s) ledBack (led-back r (e .1)) (led-back q (f .1)) (e .0) (f .0)
+      (leadingAs s r ≡ x) × (nextOf r ≤ length s) → (leadingAs s q ≡ x) × (nextOf q ≤ length s) → r ≡ q
+  led-determined r q x e f = same-back (leadingAs s) ledBack (led-back r (e .1)) (led-back q (f .1)) (e .0) (f .0)

@@ -10,9 +10,9 @@ use Rattle.scalar.specs.declared.Partial.the-variants.{Value, TooLarge}
 use Rattle.scalar.specs.declared.Leading.{Leading}
 use Rattle.scalar.specs.declared.Leading.the-variants as L
 
-abbrev pub seen : List ℕ → Partial → Answer (Read ℕ)
-seen s (Value value next) = Gives (record { value = value; rest = drop next s })
-seen s TooLarge = Refused notText
+abbrev pub partialAs : List ℕ → Partial → Answer (Read ℕ)
+partialAs s (Value value next) = Gives (record { value = value; rest = drop next s })
+partialAs s TooLarge = Refused notText
 
 abbrev pub placeOf : Partial → ℕ
 placeOf (Value value next) = next
@@ -22,9 +22,9 @@ abbrev pub valueOf : Partial → ℕ
 valueOf (Value value next) = value
 valueOf TooLarge = 0
 
-abbrev pub led : List ℕ → Leading → Answer (Read ℤ)
-led s (L.Number value next) = Gives (record { value = value; rest = drop next s })
-led s L.Refused = Refused notText
+abbrev pub leadingAs : List ℕ → Leading → Answer (Read ℤ)
+leadingAs s (L.Number value next) = Gives (record { value = value; rest = drop next s })
+leadingAs s L.Refused = Refused notText
 
 abbrev pub nextOf : Leading → ℕ
 nextOf (L.Number value next) = next

@@ -4,7 +4,7 @@ ghost use mathlib.Core.Bool.{Bool};
 ghost use Prim.Native.Nat.{_≤_};
 ghost use lib.ListN.{length, drop};
 ghost use Rattle.scalar.specs.Number.{most63, partialOf, numberOf, leadingNumber};
-ghost use Rattle.scalar.specs.Views.{seen, placeOf, valueOf, led, nextOf};
+ghost use Rattle.scalar.specs.Views.{partialAs, placeOf, valueOf, leadingAs, nextOf};
 
 // The greatest value: 63 bits.
 const MOST: u64 = 0x7fff_ffff_ffff_ffff;
@@ -26,7 +26,7 @@ enum Partial {
 // The digits from a place on, going on from `start`. Nothing wraps: a value over 63 bits is refused as soon as it is one.
 fn to_u64_partial(s: &[u8], from: usize, start: u64) -> Partial
     requires { ⌜ (from ≤ length (now s)) × (start ≤ 9) ⌝ }
-    ensures { λ r. ⌜ seen (now (s .entry)) r ≡ partialOf start (drop from (now (s .entry))) ⌝ }
+    ensures { λ r. ⌜ partialAs (now (s .entry)) r ≡ partialOf start (drop from (now (s .entry))) ⌝ }
     ensures { λ r. ⌜ (placeOf r ≤ length (now (s .entry))) × (valueOf r ≤ most63) ⌝ }
 {
     let mut value = start;
@@ -54,7 +54,7 @@ fn to_u64_partial(s: &[u8], from: usize, start: u64) -> Partial
 // The number whose first byte gave its sign and its first digit.
 fn number_from(s: &[u8], negative: bool, start: u64) -> Leading
     requires { ⌜ (1 ≤ length (now s)) × (start ≤ 9) ⌝ }
-    ensures { λ r. ⌜ led (now (s .entry)) r ≡ numberOf negative start (drop 1 (now (s .entry))) ⌝ }
+    ensures { λ r. ⌜ leadingAs (now (s .entry)) r ≡ numberOf negative start (drop 1 (now (s .entry))) ⌝ }
     ensures { λ r. ⌜ nextOf r ≤ length (now (s .entry)) ⌝ }
 {
     let Partial::Value { value, next } = to_u64_partial(s, 1, start) else {
@@ -74,7 +74,7 @@ fn number_from(s: &[u8], negative: bool, start: u64) -> Leading
 
 // A digit, `-` or `+`, then digits; a sign alone is 0. What does not fit 63 bits is refused.
 pub fn to_i64_t(s: &[u8]) -> Leading
-    ensures { λ r. ⌜ led (now (s .entry)) r ≡ leadingNumber (now (s .entry)) ⌝ }
+    ensures { λ r. ⌜ leadingAs (now (s .entry)) r ≡ leadingNumber (now (s .entry)) ⌝ }
     ensures { λ r. ⌜ nextOf r ≤ length (now (s .entry)) ⌝ }
 {
     if s.len() == 0 {

@@ -7,7 +7,7 @@ use Rattle.kinds.proofs.Determined.{packedOf}
 use Rattle.uniform_date.specs.declared.UniformDate.{UniformDate}
 use Rattle.uniform_date.specs.declared.Made.the-variants as M
 use Rattle.uniform_date.specs.declared.Parsed.the-variants as P
-use Rattle.uniform_date.specs.Views.{bits, made, parsed}
+use Rattle.uniform_date.specs.Views.{bits, madeAs, parsedAs}
 
 abbrev dated : Stored → UniformDate
 dated d = record { raw = packedOf d }
@@ -15,9 +15,9 @@ dated d = record { raw = packedOf d }
 pub bits-determined : Determines bits
 bits-determined = determined bits dated (λ d. refl)
 
-pub made-determined : Determines made
-made-determined = determined made (backOne (λ d. M.Date (dated d)) M.NotOfKind) (λ r. elim r [ M.Date d ↦ refl | M.NotOfKind ↦ refl ])
+pub made-determined : Determines madeAs
+made-determined = determined madeAs (backOne (λ d. M.Date (dated d)) M.NotOfKind) (λ r. elim r [ M.Date d ↦ refl | M.NotOfKind ↦ refl ])
 
-pub parsed-determined : Determines parsed
-parsed-determined = determined parsed (backText (λ d. P.Date (dated d)) P.TooLong P.NotText)
+pub parsed-determined : Determines parsedAs
+parsed-determined = determined parsedAs (backText (λ d. P.Date (dated d)) P.TooLong P.NotText)
     (λ r. elim r [ P.Date d ↦ refl | P.TooLong ↦ refl | P.NotText ↦ refl ])

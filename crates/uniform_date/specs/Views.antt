@@ -11,11 +11,11 @@ use Rattle.uniform_date.specs.declared.Parsed.the-variants as P
 abbrev pub bits : UniformDate → Stored
 bits d = bitsOf (d .raw)
 
-abbrev pub made : Made → Answer Stored
-made (M.Date d) = Gives (bits d)
-made M.NotOfKind = Refused notOfKind
+abbrev pub madeAs : Made → Answer Stored
+madeAs (M.Date d) = Gives (bits d)
+madeAs M.NotOfKind = Refused notOfKind
 
-abbrev pub parsed : Parsed → Answer Stored
-parsed (P.Date d) = Gives (bits d)
-parsed P.TooLong = Refused tooLong
-parsed P.NotText = Refused notText
+abbrev pub parsedAs : Parsed → Answer Stored
+parsedAs (P.Date d) = Gives (bits d)
+parsedAs P.TooLong = Refused tooLong
+parsedAs P.NotText = Refused notText

@@ -7,9 +7,9 @@ ghost use Rattle.rules.specs.Kinds.{kU, unpacked, least, greatest, fromFields, 
 ghost use Rattle.rules.specs.Days.{order};
 ghost use Rattle.rules.specs.Text.{readText};
 ghost use Rattle.rules.specs.Spelling.{dotted, iso, exchange, putAnswer, putBuffer};
-ghost use Rattle.kinds.specs.Views.{ordered};
-ghost use Rattle.formatter.specs.Views.{spelled, lengthOf};
-ghost use Rattle.uniform_date.specs.Views.{bits, made, parsed};
+ghost use Rattle.kinds.specs.Views.{orderedAs};
+ghost use Rattle.formatter.specs.Views.{spelledAs, lengthOf};
+ghost use Rattle.uniform_date.specs.Views.{bits, madeAs, parsedAs};
 use formatter::Spelled;
 use kinds::Kind;
 use kinds::Ordered;
@@ -61,7 +61,7 @@ impl UniformDate {
     }
 
     pub fn from_ymd_opt(year: i16, month: u8, day: u8) -> Made
-        ensures { λ r. ⌜ made r ≡ store (fromFields kU (record { year = year; month = month; day = day; hour = 0 })) ⌝ }
+        ensures { λ r. ⌜ madeAs r ≡ store (fromFields kU (record { year = year; month = month; day = day; hour = 0 })) ⌝ }
     {
         let made = kinds::make(Kind::Uniform, year, month, day, 0);
         match made {
@@ -96,7 +96,7 @@ impl UniformDate {
     }
 
     pub fn parse(s: &[u8]) -> Parsed
-        ensures { λ r. ⌜ parsed r ≡ store (readText kU (now (s .entry))) ⌝ }
+        ensures { λ r. ⌜ parsedAs r ≡ store (readText kU (now (s .entry))) ⌝ }
     {
         if reading::TEXT_LIMIT < s.len() {
             return Parsed::TooLong;
@@ -112,14 +112,14 @@ impl UniformDate {
     }
 
     pub fn compare(self, other: UniformDate) -> Ordered
-        ensures { λ r. ⌜ ordered r ≡ ofDates kU (bits self) (bits other) (λ f g. Gives (order f g)) ⌝ }
+        ensures { λ r. ⌜ orderedAs r ≡ ofDates kU (bits self) (bits other) (λ f g. Gives (order f g)) ⌝ }
     {
         kinds::compare(Kind::Uniform, self.raw, other.raw)
     }
 
     // The dotted text at the front of a buffer.
     pub fn game_fmt(self, out: &mut [u8]) -> Spelled
-        ensures { λ r. ⌜ spelled r ≡ putAnswer (ofDate kU (bits self) (λ f. Gives (dotted kU f))) (now (out .entry)) ⌝ }
+        ensures { λ r. ⌜ spelledAs r ≡ putAnswer (ofDate kU (bits self) (λ f. Gives (dotted kU f))) (now (out .entry)) ⌝ }
         ensures { λ _. ⌜ now (out .exit) ≡ putBuffer (ofDate kU (bits self) (λ f. Gives (dotted kU f))) (now (out .entry)) ⌝ }
         ensures { λ r. ⌜ lengthOf r ≤ length (now (out .entry)) ⌝ }
     {
@@ -128,7 +128,7 @@ impl UniformDate {
 
     // The ISO text.
     pub fn iso_8601(self, out: &mut [u8]) -> Spelled
-        ensures { λ r. ⌜ spelled r ≡ putAnswer (ofDate kU (bits self) (λ f. Gives (iso kU f))) (now (out .entry)) ⌝ }
+        ensures { λ r. ⌜ spelledAs r ≡ putAnswer (ofDate kU (bits self) (λ f. Gives (iso kU f))) (now (out .entry)) ⌝ }
         ensures { λ _. ⌜ now (out .exit) ≡ putBuffer (ofDate kU (bits self) (λ f. Gives (iso kU f))) (now (out .entry)) ⌝ }
         ensures { λ r. ⌜ lengthOf r ≤ length (now (out .entry)) ⌝ }
     {
@@ -137,7 +137,7 @@ impl UniformDate {
 
     // The exchange text.
     pub fn exchange(self, out: &mut [u8]) -> Spelled
-        ensures { λ r. ⌜ spelled r ≡ putAnswer (ofDate kU (bits self) (λ f. Gives (exchange kU f))) (now (out .entry)) ⌝ }
+        ensures { λ r. ⌜ spelledAs r ≡ putAnswer (ofDate kU (bits self) (λ f. Gives (exchange kU f))) (now (out .entry)) ⌝ }
         ensures { λ _. ⌜ now (out .exit) ≡ putBuffer (ofDate kU (bits self) (λ f. Gives (exchange kU f))) (now (out .entry)) ⌝ }
         ensures { λ r. ⌜ lengthOf r ≤ length (now (out .entry)) ⌝ }
     {

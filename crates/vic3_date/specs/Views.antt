@@ -17,25 +17,25 @@ use Rattle.vic3_date.specs.declared.Summed.the-variants as S
 abbrev pub bits : Vic3Date → Stored
 bits d = bitsOf (d .raw)
 
-abbrev pub made : Made → Answer Stored
-made (M.Date d) = Gives (bits d)
-made M.NotOfKind = Refused notOfKind
+abbrev pub madeAs : Made → Answer Stored
+madeAs (M.Date d) = Gives (bits d)
+madeAs M.NotOfKind = Refused notOfKind
 
-abbrev pub parsed : Parsed → Answer Stored
-parsed (P.Date d) = Gives (bits d)
-parsed P.TooLong = Refused tooLong
-parsed P.NotText = Refused notText
+abbrev pub parsedAs : Parsed → Answer Stored
+parsedAs (P.Date d) = Gives (bits d)
+parsedAs P.TooLong = Refused tooLong
+parsedAs P.NotText = Refused notText
 
-abbrev pub decoded : Decoded → Answer Stored
-decoded (D.Date d) = Gives (bits d)
-decoded D.NotNumber = Refused notNumber
+abbrev pub decodedAs : Decoded → Answer Stored
+decodedAs (D.Date d) = Gives (bits d)
+decodedAs D.NotNumber = Refused notNumber
 
-abbrev pub guessed : Guessed → Answer Stored
-guessed (G.Date d) = Gives (bits d)
-guessed G.NotNumber = Refused notNumber
+abbrev pub guessedAs : Guessed → Answer Stored
+guessedAs (G.Date d) = Gives (bits d)
+guessedAs G.NotNumber = Refused notNumber
 
-abbrev pub summed : Summed → Answer Stored
-summed (S.Date d) = Gives (bits d)
-summed S.NotOfKind = Refused notOfKind
-summed S.Overflow = Refused sumOverflows
-summed S.OutOfRange = Refused outOfRange
+abbrev pub summedAs : Summed → Answer Stored
+summedAs (S.Date d) = Gives (bits d)
+summedAs S.NotOfKind = Refused notOfKind
+summedAs S.Overflow = Refused sumOverflows
+summedAs S.OutOfRange = Refused outOfRange

@@ -8,10 +8,10 @@ ghost use Rattle.rules.specs.Numbers.{readNumber, guessNumber};
 ghost use Rattle.rules.specs.Days.{addDays, difference, order};
 ghost use Rattle.rules.specs.Text.{readText};
 ghost use Rattle.rules.specs.Spelling.{dotted, iso, exchange, putAnswer, putBuffer};
-ghost use Rattle.kinds.specs.Views.{ordered};
-ghost use Rattle.day_count.specs.Views.{counted};
-ghost use Rattle.formatter.specs.Views.{spelled, lengthOf};
-ghost use Rattle.vic3_date.specs.Views.{bits, made, parsed, decoded, guessed, summed};
+ghost use Rattle.kinds.specs.Views.{orderedAs};
+ghost use Rattle.day_count.specs.Views.{countedAs};
+ghost use Rattle.formatter.specs.Views.{spelledAs, lengthOf};
+ghost use Rattle.vic3_date.specs.Views.{bits, madeAs, parsedAs, decodedAs, guessedAs, summedAs};
 use day_count::Days;
 use formatter::Spelled;
 use kinds::Kind;
@@ -84,7 +84,7 @@ impl Vic3Date {
     }
 
     pub fn from_ymdh_opt(year: i16, month: u8, day: u8, hour: u8) -> Made
-        ensures { λ r. ⌜ made r ≡ store (fromFields kV (record { year = year; month = month; day = day; hour = hour })) ⌝ }
+        ensures { λ r. ⌜ madeAs r ≡ store (fromFields kV (record { year = year; month = month; day = day; hour = hour })) ⌝ }
     {
         let made = kinds::make(Kind::Vic3, year, month, day, hour);
         match made {
@@ -119,7 +119,7 @@ impl Vic3Date {
     }
 
     pub fn parse(s: &[u8]) -> Parsed
-        ensures { λ r. ⌜ parsed r ≡ store (readText kV (now (s .entry))) ⌝ }
+        ensures { λ r. ⌜ parsedAs r ≡ store (readText kV (now (s .entry))) ⌝ }
     {
         if reading::TEXT_LIMIT < s.len() {
             return Parsed::TooLong;
@@ -136,7 +136,7 @@ impl Vic3Date {
 
     // For a field that is declared as a date.
     pub fn from_binary(s: i32) -> Decoded
-        ensures { λ r. ⌜ decoded r ≡ store (readNumber kV s) ⌝ }
+        ensures { λ r. ⌜ decodedAs r ≡ store (readNumber kV s) ⌝ }
     {
         let read = number::from_binary(Kind::Vic3, s);
         match read {
@@ -147,7 +147,7 @@ impl Vic3Date {
 
     // For a number that no one declared.
     pub fn from_binary_heuristic(s: i32) -> Guessed
-        ensures { λ r. ⌜ guessed r ≡ store (guessNumber kV s) ⌝ }
+        ensures { λ r. ⌜ guessedAs r ≡ store (guessNumber kV s) ⌝ }
     {
         let guess = number::from_binary_heuristic(Kind::Vic3, s);
         match guess {
@@ -158,7 +158,7 @@ impl Vic3Date {
 
     // A new date; the old one stays.
     pub fn add_days(self, days: i32) -> Summed
-        ensures { λ r. ⌜ summed r ≡ store (ofDate kV (bits self) (λ f. addDays kV f days)) ⌝ }
+        ensures { λ r. ⌜ summedAs r ≡ store (ofDate kV (bits self) (λ f. addDays kV f days)) ⌝ }
     {
         let sum = day_count::add_days(Kind::Vic3, self.raw, days);
         match sum {
@@ -170,20 +170,20 @@ impl Vic3Date {
     }
 
     pub fn days_until(self, other: Vic3Date) -> Days
-        ensures { λ r. ⌜ counted r ≡ ofDates kV (bits self) (bits other) (λ f g. difference kV f g) ⌝ }
+        ensures { λ r. ⌜ countedAs r ≡ ofDates kV (bits self) (bits other) (λ f g. difference kV f g) ⌝ }
     {
         day_count::days_until(Kind::Vic3, self.raw, other.raw)
     }
 
     pub fn compare(self, other: Vic3Date) -> Ordered
-        ensures { λ r. ⌜ ordered r ≡ ofDates kV (bits self) (bits other) (λ f g. Gives (order f g)) ⌝ }
+        ensures { λ r. ⌜ orderedAs r ≡ ofDates kV (bits self) (bits other) (λ f g. Gives (order f g)) ⌝ }
     {
         kinds::compare(Kind::Vic3, self.raw, other.raw)
     }
 
     // The dotted text at the front of a buffer.
     pub fn game_fmt(self, out: &mut [u8]) -> Spelled
-        ensures { λ r. ⌜ spelled r ≡ putAnswer (ofDate kV (bits self) (λ f. Gives (dotted kV f))) (now (out .entry)) ⌝ }
+        ensures { λ r. ⌜ spelledAs r ≡ putAnswer (ofDate kV (bits self) (λ f. Gives (dotted kV f))) (now (out .entry)) ⌝ }
         ensures { λ _. ⌜ now (out .exit) ≡ putBuffer (ofDate kV (bits self) (λ f. Gives (dotted kV f))) (now (out .entry)) ⌝ }
         ensures { λ r. ⌜ lengthOf r ≤ length (now (out .entry)) ⌝ }
     {
@@ -192,7 +192,7 @@ impl Vic3Date {
 
     // The ISO text.
     pub fn iso_8601(self, out: &mut [u8]) -> Spelled
-        ensures { λ r. ⌜ spelled r ≡ putAnswer (ofDate kV (bits self) (λ f. Gives (iso kV f))) (now (out .entry)) ⌝ }
+        ensures { λ r. ⌜ spelledAs r ≡ putAnswer (ofDate kV (bits self) (λ f. Gives (iso kV f))) (now (out .entry)) ⌝ }
         ensures { λ _. ⌜ now (out .exit) ≡ putBuffer (ofDate kV (bits self) (λ f. Gives (iso kV f))) (now (out .entry)) ⌝ }
         ensures { λ r. ⌜ lengthOf r ≤ length (now (out .entry)) ⌝ }
     {
@@ -201,7 +201,7 @@ impl Vic3Date {
 
     // The exchange text.
     pub fn exchange(self, out: &mut [u8]) -> Spelled
-        ensures { λ r. ⌜ spelled r ≡ putAnswer (ofDate kV (bits self) (λ f. Gives (exchange kV f))) (now (out .entry)) ⌝ }
+        ensures { λ r. ⌜ spelledAs r ≡ putAnswer (ofDate kV (bits self) (λ f. Gives (exchange kV f))) (now (out .entry)) ⌝ }
         ensures { λ _. ⌜ now (out .exit) ≡ putBuffer (ofDate kV (bits self) (λ f. Gives (exchange kV f))) (now (out .entry)) ⌝ }
         ensures { λ r. ⌜ lengthOf r ≤ length (now (out .entry)) ⌝ }
     {

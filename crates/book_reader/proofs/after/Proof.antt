@@ -38,7 +38,7 @@ use denote.Triple.Table.{entered, cited}
 use denote.Triple.Walked.{says, Stays, stay-none, walkOf, goes-none, Walks, ends-at, walked, walk-meets}
 use denote.Exit.{yes}
 use denote.Triple.Clauses.{ensured, lasts}
-use Rattle.book_reader.specs.Places.{placeAfter}
+use Rattle.book_reader.specs.Places.{nextPlace}
 use Rattle.book_reader.specs.declared.BookReader.{BookReader}
 use Rattle.book_reader.proofs.BookReader as T
 use Rattle.book_reader.proofs.BookReader.Laws as T′
@@ -64,8 +64,8 @@ module _ {M : Type 1} (𝓤 : URA M) (H : Heap 𝓤) (A : Atoms 𝓤) (mem : Mem
   PlaceAfter = tripleOf 𝓤 H A step.signature (step.spec 𝓤 H A mem run)
 
   -- of the callee's `ensured`, the clause alone
-  said : (n m : ℕ) → ent 𝓤 (ensured 𝓤 H A step.ended (step.clauses 𝓤 H A mem run) tt (n, tt) tt m) (fact 𝓤 (m ≡ placeAfter n))
-  said n m = exE 𝓤 _ (λ ws. snd∗ 𝓤 (sem 𝓤 H A (lasts step.ended tt (n, tt) ws)) (fact 𝓤 (m ≡ placeAfter n)))
+  said : (n m : ℕ) → ent 𝓤 (ensured 𝓤 H A step.ended (step.clauses 𝓤 H A mem run) tt (n, tt) tt m) (fact 𝓤 (m ≡ nextPlace n))
+  said n m = exE 𝓤 _ (λ ws. snd∗ 𝓤 (sem 𝓤 H A (lasts step.ended tt (n, tt) ws)) (fact 𝓤 (m ≡ nextPlace n)))
 
 module _ {M : Type 1} (𝓤 : URA M) (H : Heap 𝓤) (A : Atoms 𝓤) (W : Given 𝓤 H A) (mem : Memory → SProp 𝓤) (run : Routine → Fun 𝓤) (κ : Lft) (q : Share) (d : BookReader) where
   abbrev mach : Val
@@ -88,7 +88,7 @@ module _ {M : Type 1} (𝓤 : URA M) (H : Heap 𝓤) (A : Atoms 𝓤) (W : Given
   goes : ent 𝓤 (sem 𝓤 H A (usize .own (d .place) (vint w64 (d .place) ∷ []))) (PlaceAfter 𝓤 H A mem run .pre to)
   goes = qed W (‵ (usize .own (d .place) (vint w64 (d .place) ∷ [])) ∷ []) ∵ nothing ! $ move ! (1 ∷ 0 ∷ []) $ fjoin ! $ nothing ! $ join ! $ frame ! $ done !
 
-  exits : (m : ℕ) → m < 2 ^ 64 → m ≡ placeAfter (d .place) → ent 𝓤 (onEntry 𝓤 H A after.signature (κ, tt) (q, tt) (d, tt) (mach ∷ [], tt)) (Post (T′.lowered (moved m)))
+  exits : (m : ℕ) → m < 2 ^ 64 → m ≡ nextPlace (d .place) → ent 𝓤 (onEntry 𝓤 H A after.signature (κ, tt) (q, tt) (d, tt) (mach ∷ [], tt)) (Post (T′.lowered (moved m)))
   exits m ok e =
       qed W ((‵ (flft κ q) ⊛ ‵ ftrue) ∷ ‵ (owns (B (κ, tt) ∷ []) (d, tt) (mach ∷ [], tt)) ∷ []) ∵
       suffices ! _ (ends-at 𝓤 H A after.ended stayed (after.clauses 𝓤 H A mem run) W (((κ, tt), (q, tt), tt, (d, tt), (mach ∷ [], tt)), tt) (T′.lowered (moved m)) (moved m) (tt, tt) (tt, tt)) $ says ! (refl, e) $
@@ -106,7 +106,7 @@ module _ {M : Type 1} (𝓤 : URA M) (H : Heap 𝓤) (A : Atoms 𝓤) (W : Given
         owned ! usize (Is usize) (uint-makes 𝓤 H A W w64) (d .place) _ (refl, wt .1 .1 .0 .fits) $ use1 W (raw (PlaceAfter 𝓤 H A mem run .pre to)) goes $
         calls-at ! fm (PlaceAfter 𝓤 H A mem run) known to (and-then ! (load ! (from ! (stop !)) (look ! 1 refl)) (no-more !)) (λ u.
         use1 W (later (some (λ (m : ℕ). (‵ ftrue ⊛ ‵ (usize .own m (u ∷ []))) ⊛ raw (ensured 𝓤 H A step.ended (step.clauses 𝓤 H A mem run) tt (d .place, tt) tt m)))) (id⊢ 𝓤 _) $ await ! tt $ pick ! (λ m.
-        split ! $ move ! (1 ∷ []) $ use1 W (raw (fact 𝓤 (m ≡ placeAfter (d .place)))) (said 𝓤 H A mem run (d .place) m) $ heard ! (m ≡ placeAfter (d .place)) (λ e. split ! $ drop ! $
+        split ! $ move ! (1 ∷ []) $ use1 W (raw (fact 𝓤 (m ≡ nextPlace (d .place)))) (said 𝓤 H A mem run (d .place) m) $ heard ! (m ≡ nextPlace (d .place)) (λ e. split ! $ drop ! $
         -- [what the new number owns; _4; …; room for _3; …; _2; …; _1; …; room for _0; …; the token; what the struct owns]
         peeks ! usize (Is usize) (shows 𝓤 H A usize) m (u ∷ []) (λ is.
         land ! (from ! (stop !)) (init ! 3 refl (uint-lawful 𝓤 H A W w64 .typed m _ is .0)) $ rewrite ! 3 (λ (x : Val). ‵ (fat fullShare (tyInt w64) l₃ 0 x)) (ap only (is .0)) refl $ drop ! $

@@ -1,19 +1,19 @@
 -- `by_kind::hour` meets its contract: what the reader of H answers. Assumes nothing.
 use borrow.Author.Needs.{needs}
 use mathlib.Core.Path.{sym, ap, _∙_}
-use Rattle.date_hour.specs.Views.{parsed}
+use Rattle.date_hour.specs.Views.{parsedAs}
 use Rattle.by_kind.proofs.hour.Statement.{statement}
 use Rattle.by_kind.proofs.hour.Tie as tie
 
 returns : tie.Need-returns
 returns c =
-    ap parsed (sym (c .before .before .read .given .1)) ∙ c .before .before .before .before .parse .ensures
+    ap parsedAs (sym (c .before .before .read .given .1)) ∙ c .before .before .before .before .parse .ensures
 
 returns-2 : tie.Need-returns-2
-returns-2 c = ap parsed (sym (c .enum-told .given .1)) ∙ c .before .before .parse .ensures
+returns-2 c = ap parsedAs (sym (c .enum-told .given .1)) ∙ c .before .before .parse .ensures
 
 returns-3 : tie.Need-returns-3
-returns-3 c = ap parsed (sym (c .enum-told2 .given .1)) ∙ c .before .before .parse .ensures
+returns-3 c = ap parsedAs (sym (c .enum-told2 .given .1)) ∙ c .before .before .parse .ensures
 
 pub hour-spec : {M : Type 1} → statement M
 hour-spec =

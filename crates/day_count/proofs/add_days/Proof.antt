@@ -4,7 +4,7 @@ use mir.Facts.{toZ-ofZ}
 use Rattle.rules.specs.Refusals.{Gives}
 use Rattle.rules.specs.Kinds.{handed}
 use Rattle.rules.specs.Days.{addDays}
-use Rattle.kinds.specs.Views.{kindOf, fieldsOf, bitsOf, opened}
+use Rattle.kinds.specs.Views.{kindOf, fieldsOf, bitsOf, openedAs}
 use Rattle.day_count.proofs.Laws.{on-calendar, hour-low}
 use Rattle.rules.proofs.PackLaws.{lacking}
 use borrow.Author.Needs.{needs}
@@ -14,10 +14,10 @@ use Rattle.day_count.proofs.add_days.Tie as tie
 -- the fields that were found are those of the date handed in
 found : (c : tie.After-known-told) → let a = c .before .before .before .before .before .before .args in
     handed (kindOf (a .kind)) (bitsOf (a .date)) ≡ Gives (fieldsOf (c .before .opened .given .0 .0))
-found c = sym (c .before .before .before .unpack .ensures) ∙ ap opened (c .before .opened .given .1)
+found c = sym (c .before .before .before .unpack .ensures) ∙ ap openedAs (c .before .opened .given .1)
 
 returns : tie.Need-returns
-returns c = rw (sym (c .before .before .unpack .ensures) ∙ ap opened (c .enum-told .given .1))
+returns c = rw (sym (c .before .before .unpack .ensures) ∙ ap openedAs (c .enum-told .given .1))
 
 moved-requires : tie.Need-moved-requires
 moved-requires c κs =

@@ -6,7 +6,7 @@ use Rattle.sign.proofs.Bits.{held}
 use Rattle.rules.specs.Refusals.{Gives}
 use Rattle.rules.specs.Kinds.{handed}
 use Rattle.rules.specs.Days.{countsDays, difference}
-use Rattle.kinds.specs.Views.{kindOf, fieldsOf, bitsOf, opened}
+use Rattle.kinds.specs.Views.{kindOf, fieldsOf, bitsOf, openedAs}
 use Rattle.day_count.proofs.Laws.{on-calendar}
 use Rattle.rules.proofs.PackLaws.{lacking}
 use borrow.Author.Needs.{needs}
@@ -16,22 +16,22 @@ use Rattle.day_count.proofs.days_until.Tie as tie
 -- the fields that were found are those of the dates handed in
 first-found : (c : tie.After-known-told) → let a = c .before .before .before .before .before .before .args in
     handed (kindOf (a .kind)) (bitsOf (a .first)) ≡ Gives (fieldsOf (c .before .a .given .0 .0))
-first-found c = sym (c .before .before .before .unpack .ensures) ∙ ap opened (c .before .a .given .1)
+first-found c = sym (c .before .before .before .unpack .ensures) ∙ ap openedAs (c .before .a .given .1)
 
 second-found : (c : tie.After-known-told2) → let a = c .before .before .before .before .before .before .before .before .before .before .args in
     handed (kindOf (a .kind)) (bitsOf (a .second)) ≡ Gives (fieldsOf (c .before .b .given .0 .0))
-second-found c = sym (c .before .before .before .unpack2 .ensures) ∙ ap opened (c .before .b .given .1)
+second-found c = sym (c .before .before .before .unpack2 .ensures) ∙ ap openedAs (c .before .b .given .1)
 
 counts : (c : tie.After-known-told2) → countsDays (kindOf (c .before .before .before .before .before .before .before .before .before .before .args .kind)) ≡ true
 counts c =
     let t = c .before .before .before .before .before .before .before .before in sym (t .before .counts-days .ensures) ∙ t .if1 .taken
 
 returns : tie.Need-returns
-returns c = rw (sym (c .before .before .unpack .ensures) ∙ ap opened (c .enum-told .given .1))
+returns c = rw (sym (c .before .before .unpack .ensures) ∙ ap openedAs (c .enum-told .given .1))
 
 returns-2 : tie.Need-returns-2
 returns-2 c =
-    rw (first-found (c .before .before .before), sym (c .before .before .unpack2 .ensures) ∙ ap opened (c .enum-told2 .given .1))
+    rw (first-found (c .before .before .before), sym (c .before .before .unpack2 .ensures) ∙ ap openedAs (c .enum-told2 .given .1))
 
 between-requires : tie.Need-between-requires
 between-requires c κs =

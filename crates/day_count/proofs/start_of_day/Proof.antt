@@ -7,7 +7,7 @@ use Rattle.rules.specs.Refusals.{Gives}
 use Rattle.rules.specs.Kinds.{stored, handed}
 use Rattle.rules.specs.Days.{startOfDay}
 use Rattle.rules.proofs.PackLaws.{lacking}
-use Rattle.kinds.specs.Views.{kindOf, fieldsOf, bitsOf, opened}
+use Rattle.kinds.specs.Views.{kindOf, fieldsOf, bitsOf, openedAs}
 use Rattle.day_count.proofs.Laws.{small-fields}
 use borrow.Author.Needs.{needs}
 use Rattle.day_count.proofs.start_of_day.Statement.{statement}
@@ -16,10 +16,10 @@ use Rattle.day_count.proofs.start_of_day.Tie as tie
 -- the fields that were found are those of the date handed in
 found : (c : tie.After-known-told) → let a = c .before .before .before .before .before .before .args in
     handed (kindOf (a .kind)) (bitsOf (a .date)) ≡ Gives (fieldsOf (c .before .opened .given .0 .0))
-found c = sym (c .before .before .before .unpack .ensures) ∙ ap opened (c .before .opened .given .1)
+found c = sym (c .before .before .before .unpack .ensures) ∙ ap openedAs (c .before .opened .given .1)
 
 returns : tie.Need-returns
-returns c = rw (sym (c .before .before .unpack .ensures) ∙ ap opened (c .enum-told .given .1))
+returns c = rw (sym (c .before .before .unpack .ensures) ∙ ap openedAs (c .enum-told .given .1))
 
 pack-requires : tie.Need-pack-requires
 pack-requires c κs = let s = small-fields _ _ _ (found (c .before)) in (omega arith, s .0, s .1, omega arith)

@@ -6,7 +6,7 @@ use lib.Dec.{eqb, eqb→eq}
 use borrow.Author.Needs.{needs}
 use Rattle.rules.specs.Calendar.{monthDay, walk, lengths}
 use Rattle.rules.proofs.Table.{tabulate, below}
-use Rattle.day_table.specs.Entries.{wordOf}
+use Rattle.day_table.specs.Entries.{fourFrom}
 use Rattle.day_table.proofs.entry.Statement.{statement}
 use Rattle.day_table.proofs.entry.Tie as tie
 
@@ -16,7 +16,7 @@ entry d = monthDay d .month * 100 + monthDay d .day
 
 -- an entry, from its word
 abbrev found : ℕ → ℕ
-found d = wordOf (tabulate entry 0 365) (d / 4) / 2 ^ (d % 4 * 16) % 65536
+found d = fourFrom (tabulate entry 0 365) (d / 4) / 2 ^ (d % 4 * 16) % 65536
 
 found-right : (d : ℕ) → d < 365 → found d ≡ entry d
 unfolding monthDay walk lengths

@@ -8,7 +8,7 @@ use Rattle.sign.proofs.Bits.{held}
 use Rattle.rules.specs.Refusals.{Gives}
 use Rattle.rules.specs.Kinds.{handed}
 use Rattle.rules.specs.Spelling.{exchange}
-use Rattle.kinds.specs.Views.{kindOf, fieldsOf, opened, bitsOf}
+use Rattle.kinds.specs.Views.{kindOf, fieldsOf, openedAs, bitsOf}
 use Rattle.formatter.proofs.PieceLaws.{exchange-text, small}
 use Rattle.formatter.proofs.Texts.{by-text, by-refusal}
 use Rattle.formatter.proofs.exchange.Statement.{statement}
@@ -16,7 +16,7 @@ use Rattle.formatter.proofs.exchange.Tie as tie
 
 told : (c : tie.After-opened) → let a = c .before .before .before .before .args in
     handed (kindOf (a .kind)) (bitsOf (a .date)) ≡ Gives (fieldsOf (c .opened .given .0 .0))
-told c = sym (c .before .before .unpack .ensures) ∙ ap opened (c .opened .given .1)
+told c = sym (c .before .before .unpack .ensures) ∙ ap openedAs (c .opened .given .1)
 
 iso-hour-requires : tie.Need-iso-hour-requires
 iso-hour-requires c κs = small _ _ _ (told (c .before .before .before)) .hour

@@ -6,7 +6,7 @@ use denote.Ref.{now}
 use lib.Dec.{lit≤}
 use lib.ListN.{length, length-append}
 use Rattle.rules.proofs.WriteLaws.{wrote, wrote-part, wrote-whole, wrote-short}
-use Rattle.formatter.specs.Pieces.{yearText, marked, hourText, textOf}
+use Rattle.formatter.specs.Pieces.{yearText, separated, hourText, textOf}
 use Rattle.formatter.proofs.put_text.Statement.{statement}
 use Rattle.formatter.proofs.put_text.Tie as tie
 
@@ -22,11 +22,11 @@ unfolding textOf
 returns-2 c =
     let a = c .before .before .before .before .before .before .before .before .before .before .before .before .before .before .before .before .before .before .before .before .before .before .args in
     let w = wrote-part (hourText (a .hour))
-    (wrote-part (marked (a .style) (a .day))
-    (wrote-part (marked (a .style) (a .month))
+    (wrote-part (separated (a .style) (a .day))
+    (wrote-part (separated (a .style) (a .month))
     (wrote (yearText (a .year)) (now (a .out)) (c .before .before .before .before .before .before .before .before .before .before .before .before .before .before .before .before .before .before .before .before .year-length .ensures .0) (omega arith) (c .before .before .before .before .before .before .before .before .before .before .before .before .before .before .put-year .ensures))
-    (c .before .before .before .before .before .before .before .before .before .before .before .before .before .before .before .before .before .before .before .marked-length .ensures .0) (omega arith) (c .before .before .before .before .before .before .before .before .before .before .put-marked .ensures))
-    (c .before .before .before .before .before .before .before .before .before .before .before .before .before .before .before .before .before .before .marked-length2 .ensures .0) (omega arith) (c .before .before .before .before .before .before .put-marked2 .ensures))
+    (c .before .before .before .before .before .before .before .before .before .before .before .before .before .before .before .before .before .before .before .separated-length .ensures .0) (omega arith) (c .before .before .before .before .before .before .before .before .before .before .put-separated .ensures))
+    (c .before .before .before .before .before .before .before .before .before .before .before .before .before .before .before .before .before .before .separated-length2 .ensures .0) (omega arith) (c .before .before .before .before .before .before .put-separated2 .ensures))
     (c .before .before .before .before .before .before .before .before .before .before .before .before .before .before .before .before .before .hour-length .ensures .0) (omega arith) (c .before .before .put-hour .ensures) in
     let s = wrote-whole w in (s .answered, (s .holds, w .room))
 

@@ -7,7 +7,7 @@ use Rattle.rules.specs.Refusals.{Answer, Gives, Refused, notOfKind}
 use Rattle.rules.specs.Calendar.{firstDay, dayOfYear, monthLength}
 use Rattle.rules.proofs.KindLaws.{yes-within}
 use Rattle.rules.proofs.CalendarLaws.{day-of-year-small}
-use Rattle.julian.specs.First.{answer, firstDayOf}
+use Rattle.julian.specs.First.{firstDayAs, firstDayOf}
 use Rattle.julian.proofs.day_of_year.Statement.{statement}
 use Rattle.julian.proofs.day_of_year.Tie as tie
 
@@ -38,7 +38,7 @@ sum : (c : tie.After-known-told) → let x = c .before .before .before .before i
 sum c =
     let x = c .before .before .before .before in
     found (x .args .month) (x .args .day) (c .before .first .given .0 .0) (x .pre)
-    (ap answer (sym (c .before .first .given .1)) ∙ c .before .before .before .julian-ordinal-day .ensures)
+    (ap firstDayAs (sym (c .before .first .given .1)) ∙ c .before .before .before .julian-ordinal-day .ensures)
 
 pub day-of-year-spec : {M : Type 1} → statement M
 day-of-year-spec =
@@ -48,7 +48,7 @@ day-of-year-spec =
     (λ c. search needs)
     (λ c. search needs)
     (λ c. let x = c .before .before .before in
-    absurd (never (x .args .month) (x .pre .0) (x .pre .1) (ap answer (sym (c .enum-told .given .1)) ∙ c .before .before .julian-ordinal-day .ensures)))
+    absurd (never (x .args .month) (x .pre .0) (x .pre .1) (ap firstDayAs (sym (c .enum-told .given .1)) ∙ c .before .before .julian-ordinal-day .ensures)))
     (λ c. omega (arith, sum c))
     (λ c. search needs)
     (λ c. omega (arith, sum c)))

@@ -7,21 +7,21 @@ use mir.Facts.{toZ-ofZ}
 use Rattle.sign.proofs.Bits.{held}
 use Rattle.rules.specs.Refusals.{notNumber}
 use Rattle.rules.specs.Numbers.{numberFields}
-use Rattle.kinds.specs.Views.{kindOf, fieldsOf, answer}
-use Rattle.number.specs.Views.{numbered, hourIn}
+use Rattle.kinds.specs.Views.{kindOf, fieldsOf, madeAs}
+use Rattle.number.specs.Views.{numberedAs, hourIn}
 use Rattle.number.proofs.Laws.{day-read, guess-reads, guess-none, guess-some}
 use Rattle.number.proofs.guess_by_fields.Statement.{statement}
 use Rattle.number.proofs.guess_by_fields.Tie as tie
 
 -- what was answered of the number's fields is what it has
-told : (c : tie.After-number-fields) → numbered notNumber (c .number-fields .result) ≡ numberFields notNumber (c .before .args .s)
+told : (c : tie.After-number-fields) → numberedAs notNumber (c .number-fields .result) ≡ numberFields notNumber (c .before .args .s)
 told c = rw (toZ-ofZ (c .before .fits .s)) at (c .number-fields .ensures .0 notNumber)
 
 returns : tie.Need-returns
 returns c =
     let n = c .before .before in
     let a = n .before in
-    rw (guess-none (kindOf (a .args .kind)) (a .args .s) (a .pre) (sym (told n) ∙ ap (numbered notNumber) (c .enum-told .given .1)))
+    rw (guess-none (kindOf (a .args .kind)) (a .args .s) (a .pre) (sym (told n) ∙ ap (numberedAs notNumber) (c .enum-told .given .1)))
 
 passes-guess-requires : tie.Need-passes-guess-requires
 passes-guess-requires c κs =
@@ -33,7 +33,7 @@ decode-requires c κs =
     let n = f .before .before in
     let a = n .before in
     let k = kindOf (a .args .kind) in
-    (omega (arith, ap hourIn (f .f .given .1), n .number-fields .ensures .1), day-read k notNumber (a .args .s) _ (guess-reads k (a .pre)) (sym (told n) ∙ ap (numbered notNumber) (f .f .given .1)))
+    (omega (arith, ap hourIn (f .f .given .1), n .number-fields .ensures .1), day-read k notNumber (a .args .s) _ (guess-reads k (a .pre)) (sym (told n) ∙ ap (numberedAs notNumber) (f .f .given .1)))
 
 returns-2 : tie.Need-returns-2
 returns-2 c =
@@ -43,8 +43,8 @@ returns-2 c =
     let n = f .before .before in
     let a = n .before in
     let e = f .f .given .0 .0 in
-    rw (guess-some (kindOf (a .args .kind)) (a .args .s) (fieldsOf e) (a .pre) (sym (told n) ∙ ap (numbered notNumber) (f .f .given .1)) (sym (rw (held w16 {z = e .year} (p .before .struct-told .given .0 .1)) at (p .passes-guess .ensures)) ∙ d .before .before .if1 .taken))
-    (ap (answer notNumber) (sym (c .before .made .given .1)) ∙ (rw (held w16 {z = e .year} (d .before .struct-told2 .given .0 .1)) at (d .decode .ensures)))
+    rw (guess-some (kindOf (a .args .kind)) (a .args .s) (fieldsOf e) (a .pre) (sym (told n) ∙ ap (numberedAs notNumber) (f .f .given .1)) (sym (rw (held w16 {z = e .year} (p .before .struct-told .given .0 .1)) at (p .passes-guess .ensures)) ∙ d .before .before .if1 .taken))
+    (ap (madeAs notNumber) (sym (c .before .made .given .1)) ∙ (rw (held w16 {z = e .year} (d .before .struct-told2 .given .0 .1)) at (d .decode .ensures)))
 
 returns-3 : tie.Need-returns-3
 returns-3 c =
@@ -54,8 +54,8 @@ returns-3 c =
     let n = f .before .before in
     let a = n .before in
     let e = f .f .given .0 .0 in
-    rw (guess-some (kindOf (a .args .kind)) (a .args .s) (fieldsOf e) (a .pre) (sym (told n) ∙ ap (numbered notNumber) (f .f .given .1)) (sym (rw (held w16 {z = e .year} (p .before .struct-told .given .0 .1)) at (p .passes-guess .ensures)) ∙ d .before .before .if1 .taken))
-    (ap (answer notNumber) (sym (c .enum-told2 .given .1)) ∙ (rw (held w16 {z = e .year} (d .before .struct-told2 .given .0 .1)) at (d .decode .ensures)))
+    rw (guess-some (kindOf (a .args .kind)) (a .args .s) (fieldsOf e) (a .pre) (sym (told n) ∙ ap (numberedAs notNumber) (f .f .given .1)) (sym (rw (held w16 {z = e .year} (p .before .struct-told .given .0 .1)) at (p .passes-guess .ensures)) ∙ d .before .before .if1 .taken))
+    (ap (madeAs notNumber) (sym (c .enum-told2 .given .1)) ∙ (rw (held w16 {z = e .year} (d .before .struct-told2 .given .0 .1)) at (d .decode .ensures)))
 
 returns-4 : tie.Need-returns-4
 returns-4 c =
@@ -64,7 +64,7 @@ returns-4 c =
     let n = f .before .before in
     let a = n .before in
     let e = f .f .given .0 .0 in
-    rw (guess-some (kindOf (a .args .kind)) (a .args .s) (fieldsOf e) (a .pre) (sym (told n) ∙ ap (numbered notNumber) (f .f .given .1)) (sym (rw (held w16 {z = e .year} (p .before .struct-told .given .0 .1)) at (p .passes-guess .ensures)) ∙ c .if1 .left))
+    rw (guess-some (kindOf (a .args .kind)) (a .args .s) (fieldsOf e) (a .pre) (sym (told n) ∙ ap (numberedAs notNumber) (f .f .given .1)) (sym (rw (held w16 {z = e .year} (p .before .struct-told .given .0 .1)) at (p .passes-guess .ensures)) ∙ c .if1 .left))
 
 pub guess-by-fields-spec : {M : Type 1} → statement M
 guess-by-fields-spec =

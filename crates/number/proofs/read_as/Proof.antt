@@ -7,21 +7,21 @@ use mir.Facts.{toZ-ofZ}
 use Rattle.sign.proofs.Bits.{held}
 use Rattle.rules.specs.Refusals.{notNumber}
 use Rattle.rules.specs.Numbers.{numberFields}
-use Rattle.kinds.specs.Views.{kindOf, fieldsOf, answer}
-use Rattle.number.specs.Views.{numbered, hourIn}
+use Rattle.kinds.specs.Views.{kindOf, fieldsOf, madeAs}
+use Rattle.number.specs.Views.{numberedAs, hourIn}
 use Rattle.number.proofs.Laws.{day-read, read-none, read-some}
 use Rattle.number.proofs.read_as.Statement.{statement}
 use Rattle.number.proofs.read_as.Tie as tie
 
 -- what was answered of the number's fields is what it has
-told : (c : tie.After-number-fields) → numbered notNumber (c .number-fields .result) ≡ numberFields notNumber (c .before .args .s)
+told : (c : tie.After-number-fields) → numberedAs notNumber (c .number-fields .result) ≡ numberFields notNumber (c .before .args .s)
 told c = rw (toZ-ofZ (c .before .fits .s)) at (c .number-fields .ensures .0 notNumber)
 
 returns : tie.Need-returns
 returns c =
     let n = c .before .before in
     let a = n .before in
-    rw (read-none (kindOf (a .args .kind)) (a .args .s) (a .pre) (sym (told n) ∙ ap (numbered notNumber) (c .enum-told .given .1)))
+    rw (read-none (kindOf (a .args .kind)) (a .args .s) (a .pre) (sym (told n) ∙ ap (numberedAs notNumber) (c .enum-told .given .1)))
 
 decode-requires : tie.Need-decode-requires
 decode-requires c κs =
@@ -29,7 +29,7 @@ decode-requires c κs =
     let n = f .before .before in
     let a = n .before in
     let e = f .f .given .1 in
-    (omega (arith, ap hourIn e, n .number-fields .ensures .1), day-read (kindOf (a .args .kind)) notNumber (a .args .s) _ (a .pre) (sym (told n) ∙ ap (numbered notNumber) e))
+    (omega (arith, ap hourIn e, n .number-fields .ensures .1), day-read (kindOf (a .args .kind)) notNumber (a .args .s) _ (a .pre) (sym (told n) ∙ ap (numberedAs notNumber) e))
 
 returns-2 : tie.Need-returns-2
 returns-2 c =
@@ -38,8 +38,8 @@ returns-2 c =
     let n = f .before .before in
     let a = n .before in
     let e = f .f .given .0 .0 in
-    rw (read-some (kindOf (a .args .kind)) (a .args .s) (fieldsOf e) (a .pre) (sym (told n) ∙ ap (numbered notNumber) (f .f .given .1)))
-    (ap (answer notNumber) (sym (c .before .made .given .1)) ∙ (rw (held w16 {z = e .year} (d .before .struct-told .given .0 .1)) at (d .decode .ensures)))
+    rw (read-some (kindOf (a .args .kind)) (a .args .s) (fieldsOf e) (a .pre) (sym (told n) ∙ ap (numberedAs notNumber) (f .f .given .1)))
+    (ap (madeAs notNumber) (sym (c .before .made .given .1)) ∙ (rw (held w16 {z = e .year} (d .before .struct-told .given .0 .1)) at (d .decode .ensures)))
 
 returns-3 : tie.Need-returns-3
 returns-3 c =
@@ -48,8 +48,8 @@ returns-3 c =
     let n = f .before .before in
     let a = n .before in
     let e = f .f .given .0 .0 in
-    rw (read-some (kindOf (a .args .kind)) (a .args .s) (fieldsOf e) (a .pre) (sym (told n) ∙ ap (numbered notNumber) (f .f .given .1)))
-    (ap (answer notNumber) (sym (c .enum-told2 .given .1)) ∙ (rw (held w16 {z = e .year} (d .before .struct-told .given .0 .1)) at (d .decode .ensures)))
+    rw (read-some (kindOf (a .args .kind)) (a .args .s) (fieldsOf e) (a .pre) (sym (told n) ∙ ap (numberedAs notNumber) (f .f .given .1)))
+    (ap (madeAs notNumber) (sym (c .enum-told2 .given .1)) ∙ (rw (held w16 {z = e .year} (d .before .struct-told .given .0 .1)) at (d .decode .ensures)))
 
 pub read-as-spec : {M : Type 1} → statement M
 read-as-spec =

@@ -9,7 +9,7 @@ use Rattle.sign.proofs.Bits.{held}
 use Rattle.rules.specs.Refusals.{notText}
 use Rattle.rules.specs.Words.{fits32}
 use Rattle.kinds.specs.Views.{kindOf, fieldsOf}
-use Rattle.number.specs.Views.{numbered}
+use Rattle.number.specs.Views.{numberedAs}
 use Rattle.reading.proofs.Laws.{fits-in, number-lacks, number-out, number-none, number-some}
 use Rattle.reading.proofs.number_text.Statement.{statement}
 use Rattle.reading.proofs.number_text.Tie as tie
@@ -34,7 +34,7 @@ returns c =
     let f = c .before .before in
     let n = f .before in
     let s = n .before .before .before .before .before in
-    rw (number-none (kindOf (s .args .kind)) (s .args .value) (sym (n .before .before .before .before .reads-number-texts .ensures) ∙ n .before .before .before .if1 .taken) (fits (n .before)) (sym (rw (value-is n) at (f .number-fields .ensures .0 notText)) ∙ ap (numbered notText) (c .enum-told .given .1)))
+    rw (number-none (kindOf (s .args .kind)) (s .args .value) (sym (n .before .before .before .before .reads-number-texts .ensures) ∙ n .before .before .before .if1 .taken) (fits (n .before)) (sym (rw (value-is n) at (f .number-fields .ensures .0 notText)) ∙ ap (numberedAs notText) (c .enum-told .given .1)))
 
 returns-2 : tie.Need-returns-2
 returns-2 c =
@@ -43,7 +43,7 @@ returns-2 c =
     let f = g .before .before in
     let n = f .before in
     let s = n .before .before .before .before .before in
-    rw (number-some (kindOf (s .args .kind)) (s .args .value) (fieldsOf e) (sym (n .before .before .before .before .reads-number-texts .ensures) ∙ n .before .before .before .if1 .taken) (fits (n .before)) (sym (rw (value-is n) at (f .number-fields .ensures .0 notText)) ∙ ap (numbered notText) (g .f .given .1))) (rw (held w16 {z = e .year} (c .before .struct-told .given .0 .1)) at (c .settle .ensures notText))
+    rw (number-some (kindOf (s .args .kind)) (s .args .value) (fieldsOf e) (sym (n .before .before .before .before .reads-number-texts .ensures) ∙ n .before .before .before .if1 .taken) (fits (n .before)) (sym (rw (value-is n) at (f .number-fields .ensures .0 notText)) ∙ ap (numberedAs notText) (g .f .given .1))) (rw (held w16 {z = e .year} (c .before .struct-told .given .0 .1)) at (c .settle .ensures notText))
 
 returns-3 : tie.Need-returns-3
 returns-3 c =

@@ -3,7 +3,7 @@ use borrow.Author.Needs.{needs}
 use mathlib.Core.Path.{sym, ap, _∙_}
 use Rattle.rules.specs.Refusals.{Gives, _then_}
 use Rattle.rules.specs.Kinds.{inGameHour}
-use Rattle.kinds.specs.Views.{opened}
+use Rattle.kinds.specs.Views.{openedAs}
 use Rattle.eu5_date.proofs.Eu5Date.hour.Statement.{statement}
 use Rattle.eu5_date.proofs.Eu5Date.hour.Tie as tie
 

@@ -5,7 +5,7 @@ use Rattle.formatter.proofs.pieces.hour_length.Statement.{statement}
 use Rattle.formatter.proofs.pieces.hour_length.Tie as tie
 
 returns : tie.Need-returns
-returns c = (rw (c .before .if1 .taken) (c .marked-length .ensures .0), c .marked-length .ensures .1)
+returns c = (rw (c .before .if1 .taken) (c .separated-length .ensures .0), c .separated-length .ensures .1)
 
 returns-2 : tie.Need-returns-2
 returns-2 c = (rw (c .if1 .left), lit≤ tt)

@@ -2,7 +2,7 @@
 use native.Mathlib.Omega.{arith}
 use borrow.Author.Needs.{needs}
 use borrow.Author.Tests.{eq-eqb, ne-eqb}
-use Rattle.formatter.specs.Pieces.{marked}
+use Rattle.formatter.specs.Pieces.{separated}
 use Rattle.formatter.proofs.styles.iso_hour_before.Statement.{statement}
 use Rattle.formatter.proofs.styles.iso_hour_before.Tie as tie
 
@@ -10,7 +10,7 @@ returns : tie.Need-returns
 returns c = (rw (eq-eqb _ 0 (c .before .if1 .taken)) (c .no-hour .ensures .0), omega arith)
 
 returns-2 : tie.Need-returns-2
-unfolding marked
+unfolding separated
 returns-2 c = (rw (ne-eqb _ 0 (c .if1 .left)), omega arith)
 
 pub iso-hour-before-spec : {M : Type 1} → statement M

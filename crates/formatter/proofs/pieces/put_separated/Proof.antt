@@ -1,4 +1,4 @@
--- `formatter::pieces::put_marked` meets its contract: two digits go into the part after the mark. Assumes nothing.
+-- `formatter::pieces::put_separated` meets its contract: two digits go into the part after the separator. Assumes nothing.
 use mathlib.Core.List.{_∷_, []}
 use native.Mathlib.Omega.{arith}
 use borrow.Author.Needs.{needs}
@@ -8,8 +8,8 @@ use lib.Seq.{sets-eq}
 use Rattle.rules.specs.Spelling.{filled}
 use Rattle.rules.proofs.WriteLaws.{marked-tail, tail-lent}
 use Rattle.formatter.proofs.PieceLaws.{two-room, one-room}
-use Rattle.formatter.proofs.pieces.put_marked.Statement.{statement}
-use Rattle.formatter.proofs.pieces.put_marked.Tie as tie
+use Rattle.formatter.proofs.pieces.put_separated.Statement.{statement}
+use Rattle.formatter.proofs.pieces.put_separated.Tie as tie
 
 sub-put-two : tie.Need-sub-put-two
 sub-put-two c =
@@ -43,8 +43,8 @@ returns-2 : tie.Need-returns-2
 returns-2 c =
     rw (c .before .takes-two .ensures, c .if1 .left) (sets-eq (_ ∷ _ ∷ []) (now (c .before .before .before .args .out)) 0 (one-room _ _ _ (c .before .takes-two .ensures) (c .if1 .left) (c .before .before .before .pre .1)))
 
-pub put-marked-spec : {M : Type 1} → statement M
-put-marked-spec =
+pub put-separated-spec : {M : Type 1} → statement M
+put-separated-spec =
     tie.close
     (tie.spec
     (λ c κs. search needs)

@@ -5,7 +5,7 @@ use mathlib.Core.Bool.{cond}
 use Prim.Native.Nat.{ℕ}
 use lib.Dec.{eqb}
 use Rattle.rules.specs.Refusals.{Answer, Gives, Refused, RefusedAt, notOfKind, badLength, badVersion}
-use Rattle.rules.proofs.ReadBack.{Determines, determined}
+use Rattle.rules.proofs.OnRefusals.Determined.{Determines, determined}
 use Rattle.kinds.specs.declared.Kind.{Kind}
 use Rattle.kinds.proofs.Determined.{packedOf, kindBack, kind-back}
 use Rattle.book.specs.declared.Checked.the-variants as C

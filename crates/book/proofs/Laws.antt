@@ -16,15 +16,15 @@ use Rattle.rules.specs.Refusals.{Answer, Gives, Refused, RefusedAt, given, notO
 use Rattle.rules.specs.Kinds as K
 use Rattle.rules.specs.Kinds.{Stored, handed}
 use Rattle.rules.specs.Book.{Format, headSize, kindCode, kindOfCode, yearOfTwos, entryBytes, Entry, entryFrom, entryOf, lengthSaid, check, version1, entryAt, entryFor}
-use Rattle.rules.proofs.Rests as R
-use Rattle.rules.proofs.WriteLaws.{tail-lent, tail-back}
-use Rattle.rules.proofs.FrameLaws.{Sensible}
-use Rattle.rules.proofs.BookLaws.{entry-by, Counted, counted, checked, ends-inside, record-here, record-none, sound-here}
-use Rattle.rules.proofs.EntryLaws.{entry-for}
+use Rattle.rules.proofs.Shared.Rests as R
+use Rattle.rules.proofs.OnSpelling.WriteLaws.{tail-lent, tail-back}
+use Rattle.rules.proofs.OnBook.FrameLaws.{Sensible}
+use Rattle.rules.proofs.OnBook.BookLaws.{entry-by, Counted, counted, checked, ends-inside, record-here, record-none, sound-here}
+use Rattle.rules.proofs.OnBook.EntryLaws.{entry-for}
 use Rattle.kinds.specs.declared.Kind.{Kind}
 use Rattle.kinds.specs.declared.Packed.{Packed}
 use Rattle.kinds.specs.Views.{kindOf, bitsOf}
-use Rattle.rules.proofs.PackLaws.{handed-by, unmarked, unmarked-word}
+use Rattle.rules.proofs.OnKinds.PackLaws.{handed-by, unmarked, unmarked-word}
 use Rattle.frame.specs.Views.{frameOf}
 use Rattle.book.specs.Views.{dateSize, leastSize, entrySized, bookOf, inBits, bytesOf}
 

@@ -9,8 +9,8 @@ use lib.Dec.{ltb}
 use denote.Ref.{RefT}
 use Rattle.rules.specs.Refusals.{Answer, Gives, Refused, RefusedAt}
 use Rattle.rules.specs.Book.{check, recordAt, version1, entryAt}
-use Rattle.rules.proofs.BookLaws.{entry-by, counted, record-none, record-refused, record-bad}
-use Rattle.rules.proofs.EntryLaws.{version1-sensible}
+use Rattle.rules.proofs.OnBook.BookLaws.{entry-by, counted, record-none, record-refused, record-bad}
+use Rattle.rules.proofs.OnBook.EntryLaws.{version1-sensible}
 use Rattle.book_reader.specs.Places.{nextPlace}
 use Rattle.book_reader.specs.declared.BookReader.{BookReader}
 

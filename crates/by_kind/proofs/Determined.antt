@@ -1,7 +1,7 @@
 -- The answer is determined: two that a contract allows are equal, since the view that the contract names can be read back.
 -- Assumes nothing.
 use mathlib.Core.Path.{refl}
-use Rattle.rules.proofs.ReadBack.{Determines, determined, backText}
+use Rattle.rules.proofs.OnRefusals.Determined.{Determines, determined, backText}
 use Rattle.kinds.proofs.Determined.{packedOf}
 use Rattle.by_kind.specs.declared.Parsed.the-variants as P
 use Rattle.by_kind.specs.Views.{parsedAs}

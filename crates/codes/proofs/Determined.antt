@@ -1,7 +1,7 @@
 -- Each answer is determined: two that a contract allows are equal, since the view that the contract names can be read back.
 -- Assumes nothing.
 use mathlib.Core.Path.{_≡_, refl, ap}
-use Rattle.rules.proofs.ReadBack.{Determines, determined, backOne}
+use Rattle.rules.proofs.OnRefusals.Determined.{Determines, determined, backOne}
 use Rattle.rules.specs.Kinds as K
 use Rattle.kinds.proofs.Determined.{kindBack, kind-back}
 use Rattle.codes.specs.declared.Lettered.the-variants as L

@@ -1,7 +1,7 @@
 -- Each answer is determined: two that a contract allows are equal, since the view that the contract names can be read back.
 -- Assumes nothing.
 use mathlib.Core.Path.{refl}
-use Rattle.rules.proofs.ReadBack.{Determines, determined, backOne, backSum}
+use Rattle.rules.proofs.OnRefusals.Determined.{Determines, determined, backOne, backSum}
 use Rattle.kinds.proofs.Determined.{packedOf}
 use Rattle.day_count.specs.declared.Sum.the-variants as S
 use Rattle.day_count.specs.declared.Start.the-variants as T

@@ -16,10 +16,10 @@ use Rattle.rules.specs.Refusals.{Answer, Gives, Refused, sumOverflows, outOfRan
 use Rattle.rules.specs.Calendar.{monthDay, monthLength}
 use Rattle.rules.specs.Kinds.{Kind, kR, kD, kH, kU, kE, kV, Fields, ofKind, Stored, store, handed, ofDate}
 use Rattle.rules.specs.Days.{addDays, dayNumberAt, countsDays, dayFields, summed, summedHour}
-use Rattle.rules.proofs.KindLaws.{fit, month-fits}
-use Rattle.rules.proofs.OrderLaws.{day-small, hour-small}
-use Rattle.rules.proofs.PackLaws.{handed-tells}
-use Rattle.rules.proofs.DayLaws.{counter, summed-in}
+use Rattle.rules.proofs.OnKinds.KindLaws.{fit, month-fits}
+use Rattle.rules.proofs.OnDays.OrderLaws.{day-small, hour-small}
+use Rattle.rules.proofs.OnKinds.PackLaws.{handed-tells}
+use Rattle.rules.proofs.OnDays.DayLaws.{counter, summed-in}
 use Rattle.day_count.specs.declared.Sum.{Sum}
 use Rattle.day_count.specs.Views.{summedAs}
 
@@ -131,7 +131,7 @@ module _ (k : Kind) (d : Stored) (f : Fields) (e : handed k d ≡ Gives f) where
 
 -- ---- a kind's answer, from the core's: the days come to it as 32 bits
 
-pub sum-told : (k : Kind) (d : Stored) {days : ℤ} {sum r : Sum} → SFits w32 days →
+pub sum-answers : (k : Kind) (d : Stored) {days : ℤ} {sum r : Sum} → SFits w32 days →
     summedAs sum ≡ store (ofDate k d (λ f. addDays k f (toZ w32 (ofZ w32 days)))) → sum ≡ r →
     summedAs r ≡ store (ofDate k d (λ f. addDays k f days))
-sum-told k d fits is same = ap summedAs (sym same) ∙ (rw (toZ-ofZ fits) at is)
+sum-answers k d fits is same = ap summedAs (sym same) ∙ (rw (toZ-ofZ fits) at is)

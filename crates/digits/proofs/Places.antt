@@ -9,7 +9,7 @@ use lib.Dec.{lit<}
 use lib.ListN.{length, drop, set, replicate, length-append}
 use lib.Seq.{append-snoc}
 use Rattle.rules.specs.Spelling.{digit, decimal, filled}
-use Rattle.rules.proofs.DecimalLaws.{by-digits, digits-hold}
+use Rattle.rules.proofs.OnSpelling.DecimalLaws.{by-digits, digits-hold}
 use Rattle.digits.specs.Places.{digitsIn}
 
 -- ---- a turn of the loop leaves as much to be written as it found

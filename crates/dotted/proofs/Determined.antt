@@ -2,7 +2,7 @@
 use mathlib.Core.Path.{refl}
 use lib.IntN.{ℤ, pos}
 use Rattle.rules.specs.Kinds.{Fields}
-use Rattle.rules.proofs.ReadBack.{Determines, DeterminesEach, determined, determined-at, backOne}
+use Rattle.rules.proofs.OnRefusals.Determined.{Determines, DeterminesEach, determined, determined-at, backOne}
 use Rattle.dotted.specs.declared.Parts.the-variants as P
 use Rattle.dotted.specs.Views.{partsAs}
 

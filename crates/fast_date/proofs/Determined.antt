@@ -1,6 +1,6 @@
 -- The answer is determined: two that the contract allows are equal, since its view can be read back. Assumes nothing.
 use mathlib.Core.Path.{refl}
-use Rattle.rules.proofs.ReadBack.{Determines, determined, backOne}
+use Rattle.rules.proofs.OnRefusals.Determined.{Determines, determined, backOne}
 use Rattle.kinds.proofs.Determined.{packedOf}
 use Rattle.fast_date.specs.declared.Fast.{Fast}
 use Rattle.fast_date.specs.declared.Fast.the-variants as F

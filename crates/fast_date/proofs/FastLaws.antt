@@ -12,7 +12,7 @@ use Rattle.rules.specs.Words.{within}
 use Rattle.rules.specs.Refusals.{Answer, Gives, _then_, demand, notText}
 use Rattle.rules.specs.Kinds.{kD, Fields, Stored, settled, store}
 use Rattle.rules.specs.Text.{Read, isDigit, digits, afterDigits, decimalValue, leading, secondDigit, oneOrTwo, afterDot, hourAfter, dottedPart, shapeAllowed, textFields, readText}
-use Rattle.rules.proofs.PackLaws.{same-fields}
+use Rattle.rules.proofs.OnKinds.PackLaws.{same-fields}
 use Rattle.util.specs.Word.{allDigits}
 use Rattle.fast_date.specs.Fast.{alike, fastShape, quickly, Quick, Answers, Silent, eightDate, eight}
 

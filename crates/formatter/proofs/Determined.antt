@@ -4,7 +4,7 @@ use mathlib.Core.Path.{refl}
 use mathlib.Core.Bool.{cond}
 use lib.Dec.{eqb}
 use Rattle.rules.specs.Refusals.{notOfKind}
-use Rattle.rules.proofs.ReadBack.{Determines, determined, backBy}
+use Rattle.rules.proofs.OnRefusals.Determined.{Determines, determined, backBy}
 use Rattle.formatter.specs.declared.Spelled.the-variants as W
 use Rattle.formatter.specs.Views.{spelledAs}
 

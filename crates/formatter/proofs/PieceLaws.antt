@@ -12,10 +12,10 @@ use Rattle.rules.specs.Words.{byte, bytes}
 use Rattle.rules.specs.Refusals.{Gives}
 use Rattle.rules.specs.Kinds.{Kind, Fields, Stored, handed}
 use Rattle.rules.specs.Spelling.{digit, decimal, filled, plainYear, isoYear, exchangeYear, dottedPair, dottedHour, dotted, isoHourBefore, isoMonthDay, isoHour, isoDate, iso, exchange}
-use Rattle.rules.proofs.DecimalLaws.{one-digit, two-digits, filled-one, filled-two}
-use Rattle.rules.proofs.KindLaws.{fit}
-use Rattle.rules.proofs.OrderLaws.{day-small, hour-small}
-use Rattle.rules.proofs.PackLaws.{handed-tells}
+use Rattle.rules.proofs.OnSpelling.DecimalLaws.{one-digit, two-digits, filled-one, filled-two}
+use Rattle.rules.proofs.OnKinds.KindLaws.{fit}
+use Rattle.rules.proofs.OnDays.OrderLaws.{day-small, hour-small}
+use Rattle.rules.proofs.OnKinds.PackLaws.{handed-tells}
 use Rattle.digits.specs.Places.{digitsIn}
 use Rattle.formatter.specs.Pieces.{filledYear, yearText, separated, hourText, textOf}
 use Rattle.formatter.specs.declared.pieces.Style.{Style}

@@ -4,7 +4,7 @@ use mathlib.Core.Path.{refl}
 use mathlib.Core.Bool.{cond}
 use lib.Dec.{eqb}
 use Rattle.rules.specs.Refusals.{badLength}
-use Rattle.rules.proofs.ReadBack.{Determines, determined, backBy, backOne}
+use Rattle.rules.proofs.OnRefusals.Determined.{Determines, determined, backBy, backOne}
 use Rattle.frame.specs.declared.Framed.the-variants as F
 use Rattle.frame.specs.declared.Started.the-variants as N
 use Rattle.frame.specs.Views.{framedAs, startedAs}

@@ -1,7 +1,7 @@
 -- Each answer is determined: two that its contract allows are equal. Assumes nothing.
 use mathlib.Core.Path.{_≡_, refl, sym, _∙_}
 use Prim.Native.Nat.{ℕ}
-use Rattle.rules.proofs.ReadBack.{Determines, determined, backOne}
+use Rattle.rules.proofs.OnRefusals.Determined.{Determines, determined, backOne}
 use Rattle.julian.specs.declared.MonthDay.{MonthDay}
 use Rattle.julian.specs.declared.FirstDay.the-variants.{Day, NoMonth}
 use Rattle.julian.specs.First.{firstDayAs}

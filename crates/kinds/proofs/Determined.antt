@@ -6,7 +6,7 @@ use Rattle.rules.specs.Kinds.{Fields, Stored}
 use Rattle.rules.specs.Kinds as K
 use Rattle.rules.specs.Days as D
 use Rattle.rules.specs.Refusals.{notOfKind}
-use Rattle.rules.proofs.ReadBack.{Determines, DeterminesEach, determined, determined-at, backOne}
+use Rattle.rules.proofs.OnRefusals.Determined.{Determines, DeterminesEach, determined, determined-at, backOne}
 use Rattle.kinds.specs.declared.Kind.{Kind}
 use Rattle.kinds.specs.declared.Kind.the-variants as C
 use Rattle.kinds.specs.declared.ExpandedRawDate.{ExpandedRawDate}

@@ -5,7 +5,7 @@ use Prim.Native.Nat.{ℕ, _/_, _%_, _^_, _≤_, _<_}
 use lib.Dec.{T, leb, eqb}
 use borrow.Author.Tests.{le-leb, lt-leb}
 use Rattle.rules.specs.Kinds.{Kind, kR, kD, kH, kU, kE, kV, hourFits}
-use Rattle.rules.proofs.Table.{upto, below}
+use Rattle.rules.proofs.Shared.Table.{upto, below}
 use Rattle.kinds.specs.HourBits.{hourBits}
 
 same-bool : (a b : Bool) → T (Bool·beq a b) → a ≡ b

@@ -15,9 +15,9 @@ use Rattle.rules.specs.Words.{minus, fits16}
 use Rattle.rules.specs.Refusals.{Answer, Gives, Refused, _then_, demand, given, notOfKind}
 use Rattle.rules.specs.Kinds.{Kind, Fields, Stored, daysIn, hourFits, fieldSetHour, fromFields, store, fitsKind, ofKind, made, markOf, markAllowed, unpacked, handed, ofDates}
 use Rattle.rules.specs.Days.{Order, Same, byZ, byN, order}
-use Rattle.rules.proofs.KindLaws.{Fit, fit}
-use Rattle.rules.proofs.OrderLaws.{day-small, hour-small}
-use Rattle.rules.proofs.PackLaws.{word-alone, handed-by}
+use Rattle.rules.proofs.OnKinds.KindLaws.{Fit, fit}
+use Rattle.rules.proofs.OnDays.OrderLaws.{day-small, hour-small}
+use Rattle.rules.proofs.OnKinds.PackLaws.{word-alone, handed-by}
 use Rattle.kinds.specs.declared.Made.{Made}
 use Rattle.kinds.specs.Views.{madeAs}
 
@@ -95,8 +95,8 @@ order-words d e =
 
 -- ---- a kind's answer, from the maker's: the year comes to it as 16 bits, the hour is the one that the kind's field sets have
 
-pub made-told : (k : Kind) (f : Fields) {date r : Made} → fieldSetHour k (f .hour) ≡ f .hour → SFits w16 (f .year) →
+pub made-answers : (k : Kind) (f : Fields) {date r : Made} → fieldSetHour k (f .hour) ≡ f .hour → SFits w16 (f .year) →
     ((n : ℕ) → madeAs n date ≡ store (made k n (record { year = toZ w16 (ofZ w16 (f .year)); month = f .month; day = f .day; hour = f .hour }))) →
     date ≡ r → madeAs notOfKind r ≡ store (fromFields k f)
 unfolding fromFields
-made-told k f set fits is same = rw set (ap (madeAs notOfKind) (sym same) ∙ (rw (toZ-ofZ fits) at (is notOfKind)))
+made-answers k f set fits is same = rw set (ap (madeAs notOfKind) (sym same) ∙ (rw (toZ-ofZ fits) at (is notOfKind)))

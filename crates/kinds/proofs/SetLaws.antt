@@ -7,8 +7,8 @@ use Rattle.sign.specs.Halves.{up, dn, Halved}
 use Rattle.sign.proofs.Laws.{as-sub}
 use Rattle.rules.specs.Refusals.{Answer, Gives, Refused, demand}
 use Rattle.rules.specs.Kinds.{Kind, Fields, ofKind, made}
-use Rattle.rules.proofs.KindLaws.{fit}
-use Rattle.rules.proofs.OrderLaws.{day-small, hour-small}
+use Rattle.rules.proofs.OnKinds.KindLaws.{fit}
+use Rattle.rules.proofs.OnDays.OrderLaws.{day-small, hour-small}
 
 -- a number of its halves
 pub halves-back : {top : ℕ} {z : ℤ} {u d : ℕ} → Halved top z u d → subℕ u d ≡ z

@@ -14,9 +14,9 @@ use Rattle.rules.specs.Refusals.{Answer, Gives, _then_, given}
 use Rattle.rules.specs.Kinds.{Kind, Fields, Stored, ofKind, unpacked, handed, ofDate}
 use Rattle.rules.specs.Spelling.{digit, putAnswer, putBuffer}
 use Rattle.rules.specs.Listing.{refusedText, lineEnd}
-use Rattle.rules.proofs.DecimalLaws.{one-digit}
-use Rattle.rules.proofs.PackLaws.{handed-by, handed-tells}
-use Rattle.rules.proofs.ReadBack.{backOne}
+use Rattle.rules.proofs.OnSpelling.DecimalLaws.{one-digit}
+use Rattle.rules.proofs.OnKinds.PackLaws.{handed-by, handed-tells}
+use Rattle.rules.proofs.OnRefusals.Determined.{backOne}
 use Rattle.formatter.specs.declared.Spelled.{Spelled}
 use Rattle.formatter.specs.declared.Spelled.the-variants as W
 use Rattle.formatter.specs.Views.{spelledAs, lengthOf}

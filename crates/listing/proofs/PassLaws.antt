@@ -12,10 +12,10 @@ use Rattle.rules.specs.Words.{bytes}
 use Rattle.rules.specs.Refusals.{Gives}
 use Rattle.rules.specs.Spelling.{putAnswer, putBuffer}
 use Rattle.rules.specs.Listing.{lineOutput, lines, joined, lineEnd, inputLimit, listing}
-use Rattle.rules.proofs.Rests.{here, past, to-end}
-use Rattle.rules.proofs.LineLaws.{endOf, lines-first, listing-long}
-use Rattle.rules.proofs.ReadBack.{backOne}
-use Rattle.rules.proofs.WriteLaws.{tail-lent, tail-back}
+use Rattle.rules.proofs.Shared.Rests.{here, past, to-end}
+use Rattle.rules.proofs.OnListing.LineLaws.{endOf, lines-first, listing-long}
+use Rattle.rules.proofs.OnRefusals.Determined.{backOne}
+use Rattle.rules.proofs.OnSpelling.WriteLaws.{tail-lent, tail-back}
 use Rattle.listing.specs.declared.Listed.{Listed}
 use Rattle.listing.specs.declared.Listed.the-variants as L
 use Rattle.listing.specs.Answers.{listedAs, lengthOf}

@@ -10,10 +10,10 @@ use Rattle.rules.specs.Words.{byte}
 use Rattle.rules.specs.Refusals.{Answer, Gives, Refused, given, unreadableLine}
 use Rattle.rules.specs.Kinds.{Kind, Fields, Stored, ofKind, unpacked, handed, stored, store}
 use Rattle.rules.specs.Listing.{Way, letter, readLine, dateBy, refusedText, dateText, requestText, lineEnd, lineOutput}
-use Rattle.rules.proofs.PackLaws.{handed-back, handed-by}
-use Rattle.rules.proofs.ReadBack.{backOne, backBy}
-use Rattle.rules.proofs.AnswerLaws.{Told, gives, refuses, Dated}
-use Rattle.rules.proofs.RefusalLaws.{RefusedBy, date-told, has-way}
+use Rattle.rules.proofs.OnKinds.PackLaws.{handed-back, handed-by}
+use Rattle.rules.proofs.OnRefusals.Determined.{backOne, backBy}
+use Rattle.rules.proofs.OnRefusals.OutcomeLaws.{Outcome, gives, refuses, Dated}
+use Rattle.rules.proofs.OnListing.RefusalLaws.{RefusedBy, date-outcome, has-way}
 use Rattle.listing.specs.Views.{dateLine}
 
 -- a line that is not read
@@ -27,8 +27,8 @@ module _ (s : List ℕ) (k : Kind) (w : Way) (line : readLine s ≡ Gives (recor
   unfolding lineOutput requestText
   answered a e = rw (line, e)
 
-  told : Told (RefusedBy w) (Dated k) (dateBy w k (drop 4 s))
-  told = date-told w k (drop 4 s) (has-way s _ line)
+  told : Outcome (RefusedBy w) (Dated k) (dateBy w k (drop 4 s))
+  told = date-outcome w k (drop 4 s) (has-way s _ line)
 
   -- a date handed in by its own bits
   pub record Printed (d : Stored) : Type 0 where
@@ -43,7 +43,7 @@ module _ (s : List ℕ) (k : Kind) (w : Way) (line : readLine s ≡ Gives (recor
       let u : unpacked (stored f) ≡ f = ap (backOne (λ (x : Fields). x) f) (sym (handed-by k (stored f) g) ∙ h) in
       record { of-kind = g; is = rw u (answered (Gives f) e) }
 
-  by-told : (a : Answer Fields) (b : Stored) → Told (RefusedBy w) (Dated k) a → dateBy w k (drop 4 s) ≡ a → Gives b ≡ store a → Printed b
+  by-told : (a : Answer Fields) (b : Stored) → Outcome (RefusedBy w) (Dated k) a → dateBy w k (drop 4 s) ≡ a → Gives b ≡ store a → Printed b
   by-told (Gives f) b (gives p) e q =
       let same : stored f ≡ b = ap (backOne (λ (x : Stored). x) b) (sym q) in
       subst Printed same (by-fields f e p)
@@ -52,7 +52,7 @@ module _ (s : List ℕ) (k : Kind) (w : Way) (line : readLine s ≡ Gives (recor
   pub date-output : (b : Stored) → Gives b ≡ store (dateBy w k (drop 4 s)) → Printed b
   date-output b q = by-told (dateBy w k (drop 4 s)) b told refl q
 
-  by-refusal : (a : Answer Fields) (n : ℕ) → Told (RefusedBy w) (Dated k) a → dateBy w k (drop 4 s) ≡ a → Refused n ≡ store a → lineOutput s ≡ refusedText (letter k) n ++ lineEnd
+  by-refusal : (a : Answer Fields) (n : ℕ) → Outcome (RefusedBy w) (Dated k) a → dateBy w k (drop 4 s) ≡ a → Refused n ≡ store a → lineOutput s ≡ refusedText (letter k) n ++ lineEnd
   unfolding dateText
   by-refusal (Gives f) n (gives p) e q = let z : _≡_ {A = ℕ} 1 0 = ap (backOne (λ (x : Stored). 0) 1) q in absurd (omega arith)
   by-refusal (Refused m) n (refuses h) e q = let same : n ≡ m = ap (backBy (λ (x : Stored). 0) (λ i. i)) q in rw same (answered (Refused m) e)

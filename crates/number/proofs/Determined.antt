@@ -3,7 +3,7 @@
 use mathlib.Core.Path.{refl}
 use Prim.Native.Nat.{ℕ}
 use Rattle.rules.specs.Refusals.{notNumber}
-use Rattle.rules.proofs.ReadBack.{Determines, DeterminesEach, determined, determined-at, backOne}
+use Rattle.rules.proofs.OnRefusals.Determined.{Determines, DeterminesEach, determined, determined-at, backOne}
 use Rattle.kinds.proofs.Determined.{packedOf, expandedOf}
 use Rattle.number.specs.declared.Numbered.the-variants as N
 use Rattle.number.specs.declared.Read.the-variants as R

@@ -14,12 +14,12 @@ use Rattle.rules.specs.Refusals.{Answer, Gives, Refused, _then_, demand, given,
 use Rattle.rules.specs.Calendar.{lengths, monthLength, walk, monthDay, dayOfYear}
 use Rattle.rules.specs.Kinds.{Kind, kR, kD, kH, kU, kE, kV, Fields, Stored, daysIn, store, handed, ofDate}
 use Rattle.rules.specs.Numbers.{onDay, hourOf, dayOf, yearOf, hasFields, numberFields, readsNumbers, decoded, readNumber, guesses, guessed, guessNumber, straightAt, straight, writesNumbers, writtenHour, writeNumber}
-use Rattle.rules.proofs.ReadBack.{backBy}
-use Rattle.rules.proofs.CalendarLaws.{IsDay, is-day, length-small}
-use Rattle.rules.proofs.KindLaws.{Fit, fit, month-fits}
-use Rattle.rules.proofs.PackLaws.{handed-tells, lacking}
-use Rattle.rules.proofs.NumberBack.{writer}
-use Rattle.rules.proofs.NumberLaws.{Stands, fields-at, no-fields}
+use Rattle.rules.proofs.OnRefusals.Determined.{backBy}
+use Rattle.rules.proofs.OnCalendar.CalendarLaws.{IsDay, is-day, length-small}
+use Rattle.rules.proofs.OnKinds.KindLaws.{Fit, fit, month-fits}
+use Rattle.rules.proofs.OnKinds.PackLaws.{handed-tells, lacking}
+use Rattle.rules.proofs.OnNumbers.NumberBack.{writer}
+use Rattle.rules.proofs.OnNumbers.NumberLaws.{Stands, fields-at, no-fields}
 use Rattle.number.specs.declared.Read.{Read}
 use Rattle.number.specs.declared.Guess.{Guess}
 use Rattle.number.specs.Views.{readAs, guessedAs}
@@ -136,10 +136,10 @@ module _ (k : Kind) (d : Stored) where
 
 -- ---- a kind's answer, from the core's: the number comes to it as 32 bits
 
-pub read-told : (k : Kind) {s : ℤ} {read r : Read} → SFits w32 s →
+pub read-answers : (k : Kind) {s : ℤ} {read r : Read} → SFits w32 s →
     readAs read ≡ store (readNumber k (toZ w32 (ofZ w32 s))) → read ≡ r → readAs r ≡ store (readNumber k s)
-read-told k fits is same = ap readAs (sym same) ∙ (rw (toZ-ofZ fits) at is)
+read-answers k fits is same = ap readAs (sym same) ∙ (rw (toZ-ofZ fits) at is)
 
-pub guess-told : (k : Kind) {s : ℤ} {guess r : Guess} → SFits w32 s →
+pub guess-answers : (k : Kind) {s : ℤ} {guess r : Guess} → SFits w32 s →
     guessedAs guess ≡ store (guessNumber k (toZ w32 (ofZ w32 s))) → guess ≡ r → guessedAs r ≡ store (guessNumber k s)
-guess-told k fits is same = ap guessedAs (sym same) ∙ (rw (toZ-ofZ fits) at is)
+guess-answers k fits is same = ap guessedAs (sym same) ∙ (rw (toZ-ofZ fits) at is)

@@ -6,9 +6,9 @@ use native.Mathlib.Omega.{arith}
 use Rattle.rules.specs.Refusals.{Answer, Gives}
 use Rattle.rules.specs.Kinds.{Kind, Fields, Stored, ofKind, noMark, wordOf, stored, handed}
 use Rattle.rules.specs.Book.{kindCode, kindOfCode, twosComplement, entryFor}
-use Rattle.rules.proofs.KindLaws.{fit}
-use Rattle.rules.proofs.PackLaws.{handed-back, word-fits}
-use Rattle.rules.proofs.EntryLaws.{code-back, twos-fit, year-back}
+use Rattle.rules.proofs.OnKinds.KindLaws.{fit}
+use Rattle.rules.proofs.OnKinds.PackLaws.{handed-back, word-fits}
+use Rattle.rules.proofs.OnBook.EntryLaws.{code-back, twos-fit, year-back}
 use Rattle.codes.specs.declared.Coded.{Coded}
 use Rattle.codes.specs.Views.{codedAs}
 use Rattle.pennyquill.specs.Boundary.{dateNumber, dateIn}

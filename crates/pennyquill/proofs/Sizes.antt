@@ -13,11 +13,11 @@ use Rattle.rules.specs.Refusals.{Answer, Gives, Refused, RefusedAt, _then_, dem
 use Rattle.rules.specs.Kinds.{Kind, Fields, Stored, ofKind, made, markOf, markAllowed, unpacked, handed, ofDate}
 use Rattle.rules.specs.Spelling.{dotted, iso, hasIsoDate, isoDateAlone, exchange, putAnswer}
 use Rattle.rules.specs.Book.{lengthSize, headSize, kindCode, kindOfCode, lengthSaid, versionOf, framed, firstBad, allPass, records, check, pick, recordAt, appendAnswer, yearOfTwos, entryFrom, entryOf, version1, entryAt, entryFor, soundBy}
-use Rattle.rules.proofs.AnswerLaws.{Told, gives, refuses}
-use Rattle.rules.proofs.CodeLaws.{told-kind}
-use Rattle.rules.proofs.KindLaws.{high}
-use Rattle.rules.proofs.LengthLaws.{text-lengths}
-use Rattle.rules.proofs.PieceLaws.{piece-count}
+use Rattle.rules.proofs.OnRefusals.OutcomeLaws.{Outcome, gives, refuses}
+use Rattle.rules.proofs.OnKinds.CodeLaws.{outcome-kind}
+use Rattle.rules.proofs.OnKinds.KindLaws.{high}
+use Rattle.rules.proofs.OnSpelling.LengthLaws.{text-lengths}
+use Rattle.rules.proofs.OnBook.PieceLaws.{piece-count}
 use Rattle.book.specs.Views.{inBits}
 use Rattle.pennyquill.specs.Boundary.{numberOf, placeOf}
 
@@ -63,13 +63,13 @@ handed-small k d =
     small-demand (λ f. ofKind k f ≡ true) (markAllowed (markOf (d .word))) _ _
     (λ low. small-demand (λ f. ofKind k f ≡ true) (ofKind k (unpacked d)) _ _ (λ p. p))
 
-small-told : {A : Type 0} {R : ℕ → Type 0} {P : A → Type 0} {x : Answer A} → Told R P x → Small Any x
-small-told (gives p) = tt
-small-told (refuses r) = tt
+small-outcome : {A : Type 0} {R : ℕ → Type 0} {P : A → Type 0} {x : Answer A} → Outcome R P x → Small Any x
+small-outcome (gives p) = tt
+small-outcome (refuses r) = tt
 
 code-small : (code : ℕ) → Small Any (kindOfCode code)
 unfolding kindOfCode
-code-small code = small-told (told-kind kindCode notOfKind code {R = λ n. Unit {0}} tt)
+code-small code = small-outcome (outcome-kind kindCode notOfKind code {R = λ n. Unit {0}} tt)
 
 -- ---- the length of a text
 

@@ -2,7 +2,7 @@
 -- Assumes nothing.
 use mathlib.Core.Path.{refl}
 use Rattle.rules.specs.Kinds.{Stored}
-use Rattle.rules.proofs.ReadBack.{Determines, determined, backOne, backText}
+use Rattle.rules.proofs.OnRefusals.Determined.{Determines, determined, backOne, backText}
 use Rattle.kinds.proofs.Determined.{packedOf}
 use Rattle.raw_date.specs.declared.RawDate.{RawDate}
 use Rattle.raw_date.specs.declared.Made.the-variants as M

@@ -14,8 +14,8 @@ use Rattle.rules.specs.Refusals.{Answer, Gives, Refused, _then_, demand, notTex
 use Rattle.rules.specs.Kinds.{Kind, Fields, Stored, ofKind, made, settled, store}
 use Rattle.rules.specs.Numbers.{numberFields}
 use Rattle.rules.specs.Text.{Read, atEnd, readsNumberTexts, numberText, dottedPart, textFields}
-use Rattle.rules.proofs.KindLaws.{left, right}
-use Rattle.rules.proofs.Rests.{here, past}
+use Rattle.rules.proofs.OnKinds.KindLaws.{left, right}
+use Rattle.rules.proofs.Shared.Rests.{here, past}
 
 -- ---- whether the leading number fits 16, or 32, bits
 

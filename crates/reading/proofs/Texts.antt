@@ -18,8 +18,8 @@ use Rattle.rules.specs.Words.{minus, withinZ, fits16, fits32}
 use Rattle.rules.specs.Refusals.{Answer, Gives, Refused, RefusedAt, _then_, demand, tooLong, notText}
 use Rattle.rules.specs.Kinds.{Kind, Fields, Stored, ofKind, made, settled, store}
 use Rattle.rules.specs.Text.{Read, readsNumberTexts, numberText, shapeAllowed, leading, textLimit, textFields, readText}
-use Rattle.rules.proofs.AnswerLaws.{Told, gives, refuses, told-part}
-use Rattle.rules.proofs.RefusalLaws.{text-long}
+use Rattle.rules.proofs.OnRefusals.OutcomeLaws.{Outcome, gives, refuses, outcome-part}
+use Rattle.rules.proofs.OnListing.RefusalLaws.{text-long}
 use Rattle.scalar.specs.Number.{most63, leadingNumber}
 use Rattle.scalar.specs.Views.{leadingAs}
 use Rattle.scalar.specs.declared.Leading.{Leading}
@@ -29,7 +29,7 @@ use Rattle.kinds.specs.declared.Made.{Made}
 
 -- ---- a leading number of more than 63 bits is no year and no number text
 
-year-out : (k : Kind) {y : ℤ} {x : Answer Fields} → Told (λ n. n ≡ notText) (λ f. f .year ≡ y) x → fits16 y ≡ false
+year-out : (k : Kind) {y : ℤ} {x : Answer Fields} → Outcome (λ n. n ≡ notText) (λ f. f .year ≡ y) x → fits16 y ≡ false
     → (x then λ f. settled k notText f) ≡ Refused notText
 unfolding settled made ofKind
 year-out k (gives p) e = rw (p, e)
@@ -39,7 +39,7 @@ text-out : (k : Kind) (y : ℤ) (rest : List ℕ) → fits16 y ≡ false → fit
     (textFields k (record { value = y; rest = rest }) then λ f. settled k notText f) ≡ Refused notText
 unfolding textFields numberText
 text-out k y [] a b = rw (b, and-false (readsNumberTexts k))
-text-out k y (c ∷ s) a b = year-out k (told-part refl y (c ∷ s)) a
+text-out k y (c ∷ s) a b = year-out k (outcome-part refl y (c ∷ s)) a
 
 beyond : (y : ℤ) (lo hi : ℕ) → lo ≤ most63 → hi ≤ most63 → most63 < natAbs y → withinZ (minus lo) (pos hi) y ≡ false
 beyond y lo hi a b h = split (ltb 0 (dn y)) refl

@@ -22,7 +22,7 @@ use uniform_date::UniformDate;
 use vic3_date::Vic3Date;
 
 fn date_summed(answer: date::Summed) -> Told
-    ensures { λ r. ⌜ toldAs r ≡ dated (date.summed answer) ⌝ }
+    ensures { λ r. ⌜ toldAs r ≡ dated (date.summedAs answer) ⌝ }
 {
     match answer {
         date::Summed::Date(d) => answers::date(d.raw),
@@ -33,7 +33,7 @@ fn date_summed(answer: date::Summed) -> Told
 }
 
 fn eu5_date_summed(answer: eu5_date::Summed) -> Told
-    ensures { λ r. ⌜ toldAs r ≡ dated (eu5_date.summed answer) ⌝ }
+    ensures { λ r. ⌜ toldAs r ≡ dated (eu5_date.summedAs answer) ⌝ }
 {
     match answer {
         eu5_date::Summed::Date(d) => answers::date(d.raw),
@@ -44,7 +44,7 @@ fn eu5_date_summed(answer: eu5_date::Summed) -> Told
 }
 
 fn vic3_date_summed(answer: vic3_date::Summed) -> Told
-    ensures { λ r. ⌜ toldAs r ≡ dated (vic3_date.summed answer) ⌝ }
+    ensures { λ r. ⌜ toldAs r ≡ dated (vic3_date.summedAs answer) ⌝ }
 {
     match answer {
         vic3_date::Summed::Date(d) => answers::date(d.raw),
@@ -68,7 +68,7 @@ pub(crate) fn sum(kind: Kind, raw: Packed, days: i32) -> Told
 }
 
 fn difference_told(answer: Days) -> Told
-    ensures { λ r. ⌜ toldAs r ≡ counted (days.counted answer) ⌝ }
+    ensures { λ r. ⌜ toldAs r ≡ counted (days.countedAs answer) ⌝ }
 {
     match answer {
         Days::Days(n) => Told::Number(n),

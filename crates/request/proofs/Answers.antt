@@ -7,19 +7,19 @@ use native.Mathlib.Omega.{arith}
 use Rattle.rules.specs.Refusals.{Refused}
 use Rattle.rules.specs.Kinds.{Kind, store}
 use Rattle.rules.specs.Listing.{Way, hasWay, dateBy}
-use Rattle.rules.proofs.AnswerLaws.{Told, gives, Any, told-then, told-refusal}
-use Rattle.rules.proofs.RefusalLaws.{RefusedBy, date-told, one-digit-by}
+use Rattle.rules.proofs.OnRefusals.OutcomeLaws.{Outcome, gives, Any, outcome-then, outcome-refusal}
+use Rattle.rules.proofs.OnListing.RefusalLaws.{RefusedBy, date-outcome, one-digit-by}
 use Rattle.request.specs.declared.Asked.{Asked}
 use Rattle.request.specs.declared.Asked.the-variants as A
 use Rattle.request.specs.Views.{askedAs, refusalIn}
 
 module _ (k : Kind) (w : Way) (rest : List ℕ) (has : hasWay k w ≡ true) where
-  told : Told (RefusedBy w) Any (store (dateBy w k rest))
-  told = told-then (date-told w k rest has) (λ f. gives tt)
+  told : Outcome (RefusedBy w) Any (store (dateBy w k rest))
+  told = outcome-then (date-outcome w k rest has) (λ f. gives tt)
 
   one-digit : (r : Asked) → askedAs r ≡ store (dateBy w k rest) → refusalIn r < 10
   one-digit (A.Date p) e = omega arith
-  one-digit (A.Refused n) e = one-digit-by w n (told-refusal told (sym e))
+  one-digit (A.Refused n) e = one-digit-by w n (outcome-refusal told (sym e))
 
   -- what the reader of the way answers is what the line is answered, and its refusal has one digit
   pub by-way : {v : Way} (r : Asked) → w ≡ v → askedAs r ≡ store (dateBy v k rest) → (askedAs r ≡ store (dateBy w k rest)) × (refusalIn r < 10)

@@ -5,7 +5,7 @@ use mathlib.Core.List.{List}
 use Prim.Native.Nat.{ℕ}
 use Rattle.rules.specs.Refusals.{Answer}
 use Rattle.rules.specs.Listing as L
-use Rattle.rules.proofs.ReadBack.{Determines, determined, backBy, backOne}
+use Rattle.rules.proofs.OnRefusals.Determined.{Determines, determined, backBy, backOne}
 use Rattle.kinds.proofs.Determined.{packedOf, kindBack, kind-back}
 use Rattle.request.specs.declared.Way.{Way}
 use Rattle.request.specs.declared.Way.the-variants as W

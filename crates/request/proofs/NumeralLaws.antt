@@ -15,7 +15,7 @@ use Rattle.rules.specs.Words.{within, minus, fits32}
 use Rattle.rules.specs.Refusals.{Answer, Gives, Refused, _then_, demand, notText}
 use Rattle.rules.specs.Text.{Read, isDigit, digits, afterDigits, decimalValue, natural, signed, atEnd, leading}
 use Rattle.rules.specs.Listing.{digitsAsNumber, lineNumber}
-use Rattle.rules.proofs.KindLaws.{left, right}
+use Rattle.rules.proofs.OnKinds.KindLaws.{left, right}
 use Rattle.scalar.specs.Number.{most63, leadingNumber}
 use Rattle.request.specs.Numerals.{fewDigits, whole, wholeRead}
 

@@ -11,7 +11,7 @@ use borrow.Author.Tests.{le-leb, lt-leb, leb-true, leb-false}
 use Rattle.bytes.specs.Bytes.{slice, indexOf}
 use Rattle.rules.specs.Refusals.{Gives, Refused, _then_, demand, notText}
 use Rattle.rules.specs.Text.{Read, digits, afterDigits, atEnd}
-use Rattle.rules.proofs.Rests.{here, past, to-end}
+use Rattle.rules.proofs.Shared.Rests.{here, past, to-end}
 use Rattle.scalar.specs.Number.{most63, valueFrom, partialOf}
 use Rattle.scalar.proofs.Laws.{goes-on, stops-low, stops-high, stops-end}
 use Rattle.rows.specs.Rows.{afterByte, afterWord, mostOfRow, rowDigits, rowLength}

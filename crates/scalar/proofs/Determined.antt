@@ -8,7 +8,7 @@ use lib.IntN.{ℤ}
 use lib.ListN.{length, drop, length-drop}
 use Rattle.rules.specs.Refusals.{Answer}
 use Rattle.rules.specs.Text.{Read}
-use Rattle.rules.proofs.ReadBack.{same-back, backOne}
+use Rattle.rules.proofs.OnRefusals.Determined.{same-back, backOne}
 use Rattle.scalar.specs.declared.Leading.{Leading}
 use Rattle.scalar.specs.declared.Leading.the-variants as L
 use Rattle.scalar.specs.Views.{leadingAs, nextOf}

@@ -12,7 +12,7 @@ use borrow.Author.Tests.{le-leb, lt-leb, eq-eqb, ne-eqb}
 use Rattle.rules.specs.Words.{within, minus}
 use Rattle.rules.specs.Refusals.{Answer, Gives, Refused, _then_, demand, notText}
 use Rattle.rules.specs.Text.{Read, digits, afterDigits, decimalValue, natural, signed, leading}
-use Rattle.rules.proofs.Rests.{here, past}
+use Rattle.rules.proofs.Shared.Rests.{here, past}
 use Rattle.scalar.specs.Number.{most63, leadingNumber, valueFrom, partialOf, signOf, numberOf}
 
 -- a digit c before n others, whose power of ten is p

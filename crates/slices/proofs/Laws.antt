@@ -6,8 +6,8 @@ use Prim.Native.Nat.{ℕ, _+_, _≤_, _<_}
 use borrow.Author.Tests.{eq-eqb, ne-eqb}
 use lib.ListN.{length, getD, drop}
 use Rattle.rules.specs.Words.{sameBytes}
-use Rattle.rules.proofs.Rests.{here, past}
-use Rattle.rules.proofs.SameLaws.{same-true}
+use Rattle.rules.proofs.Shared.Rests.{here, past}
+use Rattle.rules.proofs.OnWords.SameLaws.{same-true}
 
 -- texts of other lengths differ
 pub other-length : (s t : List ℕ) → (length s ≡ length t → ⊥) → sameBytes s t ≡ false

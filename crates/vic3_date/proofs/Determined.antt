@@ -2,7 +2,7 @@
 -- Assumes nothing.
 use mathlib.Core.Path.{refl}
 use Rattle.rules.specs.Kinds.{Stored}
-use Rattle.rules.proofs.ReadBack.{Determines, determined, backOne, backText, backSum}
+use Rattle.rules.proofs.OnRefusals.Determined.{Determines, determined, backOne, backText, backSum}
 use Rattle.kinds.proofs.Determined.{packedOf}
 use Rattle.vic3_date.specs.declared.Vic3Date.{Vic3Date}
 use Rattle.vic3_date.specs.declared.Made.the-variants as M

@@ -2,7 +2,7 @@
 use mathlib.Core.Path.{sym, ap}
 use Rattle.rules.specs.Refusals.{notOfKind}
 use Rattle.rules.specs.Book.{kindCode, kindOfCode}
-use Rattle.rules.proofs.CodeLaws.{no-kind}
+use Rattle.rules.proofs.OnKinds.CodeLaws.{no-kind}
 use Rattle.codes.proofs.kind_of_code.Statement.{statement}
 use Rattle.codes.proofs.kind_of_code.Tie as tie
 

@@ -2,7 +2,7 @@
 use mathlib.Core.Path.{sym, ap}
 use Rattle.rules.specs.Refusals.{unreadableLine}
 use Rattle.rules.specs.Listing.{letter, kindOfLetter}
-use Rattle.rules.proofs.CodeLaws.{no-kind}
+use Rattle.rules.proofs.OnKinds.CodeLaws.{no-kind}
 use Rattle.codes.proofs.kind_of_letter.Statement.{statement}
 use Rattle.codes.proofs.kind_of_letter.Tie as tie
 

@@ -2,7 +2,7 @@
 use native.Mathlib.Omega.{arith}
 use mir.Syntax.{w16}
 use Rattle.sign.proofs.Bits.{Above, Below, above, below, as-nat}
-use Rattle.rules.proofs.EntryLaws.{twos-above, twos-below}
+use Rattle.rules.proofs.OnBook.EntryLaws.{twos-above, twos-below}
 use Rattle.codes.proofs.twos_complement.Statement.{statement}
 use Rattle.codes.proofs.twos_complement.Tie as tie
 

@@ -2,7 +2,7 @@
 use mathlib.Core.Path.{sym, _∙_}
 use mir.Syntax.{w16}
 use Rattle.sign.proofs.Bits.{held}
-use Rattle.rules.proofs.EntryLaws.{year-above, year-below}
+use Rattle.rules.proofs.OnBook.EntryLaws.{year-above, year-below}
 use borrow.Author.Needs.{needs}
 use Rattle.codes.proofs.year_of_twos.Statement.{statement}
 use Rattle.codes.proofs.year_of_twos.Tie as tie

@@ -6,7 +6,7 @@ use Rattle.rules.specs.Kinds.{handed}
 use Rattle.rules.specs.Days.{addDays}
 use Rattle.kinds.specs.Views.{kindOf, fieldsOf, bitsOf, openedAs}
 use Rattle.day_count.proofs.Laws.{on-calendar, hour-low}
-use Rattle.rules.proofs.PackLaws.{lacking}
+use Rattle.rules.proofs.OnKinds.PackLaws.{lacking}
 use borrow.Author.Needs.{needs}
 use Rattle.day_count.proofs.add_days.Statement.{statement}
 use Rattle.day_count.proofs.add_days.Tie as tie

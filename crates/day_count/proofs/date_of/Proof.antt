@@ -6,7 +6,7 @@ use mir.Syntax.{w16}
 use Rattle.sign.proofs.Bits.{held}
 use Rattle.rules.specs.Calendar.{monthDay}
 use Rattle.rules.specs.Kinds.{stored}
-use Rattle.rules.proofs.CalendarLaws.{is-day, length-small}
+use Rattle.rules.proofs.OnCalendar.CalendarLaws.{is-day, length-small}
 use Rattle.day_count.proofs.Laws.{date-is}
 use borrow.Author.Needs.{needs}
 use Rattle.day_count.proofs.date_of.Statement.{statement}

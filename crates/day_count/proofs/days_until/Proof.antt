@@ -8,7 +8,7 @@ use Rattle.rules.specs.Kinds.{handed}
 use Rattle.rules.specs.Days.{countsDays, difference}
 use Rattle.kinds.specs.Views.{kindOf, fieldsOf, bitsOf, openedAs}
 use Rattle.day_count.proofs.Laws.{on-calendar}
-use Rattle.rules.proofs.PackLaws.{lacking}
+use Rattle.rules.proofs.OnKinds.PackLaws.{lacking}
 use borrow.Author.Needs.{needs}
 use Rattle.day_count.proofs.days_until.Statement.{statement}
 use Rattle.day_count.proofs.days_until.Tie as tie

@@ -6,7 +6,7 @@ use Rattle.sign.proofs.Bits.{held}
 use Rattle.rules.specs.Refusals.{Gives}
 use Rattle.rules.specs.Kinds.{stored, handed}
 use Rattle.rules.specs.Days.{startOfDay}
-use Rattle.rules.proofs.PackLaws.{lacking}
+use Rattle.rules.proofs.OnKinds.PackLaws.{lacking}
 use Rattle.kinds.specs.Views.{kindOf, fieldsOf, bitsOf, openedAs}
 use Rattle.day_count.proofs.Laws.{small-fields}
 use borrow.Author.Needs.{needs}

@@ -5,7 +5,7 @@ use Prim.Native.Nat.{ℕ, _+_, _*_, _/_, _%_, _^_, _<_}
 use lib.Dec.{eqb, eqb→eq}
 use borrow.Author.Needs.{needs}
 use Rattle.rules.specs.Calendar.{monthDay, walk, lengths}
-use Rattle.rules.proofs.Table.{tabulate, below}
+use Rattle.rules.proofs.Shared.Table.{tabulate, below}
 use Rattle.day_table.specs.Entries.{fourFrom}
 use Rattle.day_table.proofs.entry.Statement.{statement}
 use Rattle.day_table.proofs.entry.Tie as tie

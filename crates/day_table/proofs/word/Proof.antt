@@ -2,7 +2,7 @@
 use lib.Dec.{lit≤}
 use borrow.Author.Tests.{lt-leb}
 use Prim.Native.Nat.{zero-le}
-use Rattle.rules.proofs.Arms.{past}
+use Rattle.rules.proofs.Shared.Arms.{past}
 use Rattle.day_table.proofs.word.Statement.{statement}
 use Rattle.day_table.proofs.word.Tie as tie
 

@@ -4,7 +4,7 @@ use mathlib.Core.Path.{_≡_, ap}
 use Prim.Native.Nat.{_+_, _≤_}
 use lib.ListN.{length}
 use Rattle.rules.specs.Spelling.{decimal}
-use Rattle.rules.proofs.DecimalLaws.{one-digit, digits-least, digits-most, digits-one-more}
+use Rattle.rules.proofs.OnSpelling.DecimalLaws.{one-digit, digits-least, digits-most, digits-one-more}
 use Rattle.digits.proofs.counted.Statement.{statement}
 use Rattle.digits.proofs.counted.Tie as tie
 

@@ -4,7 +4,7 @@ use native.Mathlib.Omega.{arith}
 use borrow.Author.Needs.{needs}
 use lib.Dec.{lit≤}
 use lib.ListN.{length}
-use Rattle.rules.proofs.DecimalLaws.{one-digit, digits-count, digits-least, digits-most}
+use Rattle.rules.proofs.OnSpelling.DecimalLaws.{one-digit, digits-count, digits-least, digits-most}
 use Rattle.digits.proofs.digits_of.Statement.{statement}
 use Rattle.digits.proofs.digits_of.Tie as tie
 

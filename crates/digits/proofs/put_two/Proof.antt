@@ -3,7 +3,7 @@ use borrow.Author.Needs.{needs}
 use mathlib.Core.List.{_∷_, []}
 use lib.Seq.{sets-eq}
 use denote.Ref.{now}
-use Rattle.rules.proofs.DecimalLaws.{filled-two}
+use Rattle.rules.proofs.OnSpelling.DecimalLaws.{filled-two}
 use Rattle.digits.proofs.put_two.Statement.{statement}
 use Rattle.digits.proofs.put_two.Tie as tie
 

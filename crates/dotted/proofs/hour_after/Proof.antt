@@ -2,7 +2,7 @@
 use borrow.Author.Needs.{needs}
 use borrow.Author.Tests.{ne-eqb}
 use Rattle.rules.specs.Text.{afterDot, hourAfter}
-use Rattle.rules.proofs.Rests.{here, past}
+use Rattle.rules.proofs.Shared.Rests.{here, past}
 use Rattle.dotted.proofs.hour_after.Statement.{statement}
 use Rattle.dotted.proofs.hour_after.Tie as tie
 

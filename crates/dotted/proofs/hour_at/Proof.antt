@@ -2,7 +2,7 @@
 use borrow.Author.Needs.{needs}
 use borrow.Author.Tests.{eq-eqb, ne-eqb}
 use Rattle.rules.specs.Text.{oneOrTwo, afterDot, hourAfter}
-use Rattle.rules.proofs.Rests.{here, past}
+use Rattle.rules.proofs.Shared.Rests.{here, past}
 use Rattle.dotted.proofs.hour_at.Statement.{statement}
 use Rattle.dotted.proofs.hour_at.Tie as tie
 

@@ -2,7 +2,7 @@
 use borrow.Author.Needs.{needs}
 use borrow.Author.Tests.{le-leb, lt-leb}
 use Rattle.rules.specs.Text.{oneOrTwo}
-use Rattle.rules.proofs.Rests.{here, past}
+use Rattle.rules.proofs.Shared.Rests.{here, past}
 use Rattle.dotted.proofs.one_or_two.Statement.{statement}
 use Rattle.dotted.proofs.one_or_two.Tie as tie
 

@@ -4,7 +4,7 @@ use borrow.Author.Needs.{needs}
 use mathlib.Core.Path.{refl}
 use borrow.Author.Tests.{le-leb, lt-leb}
 use Rattle.rules.specs.Text.{secondDigit}
-use Rattle.rules.proofs.Rests.{here, past}
+use Rattle.rules.proofs.Shared.Rests.{here, past}
 use Rattle.dotted.proofs.second_digit.Statement.{statement}
 use Rattle.dotted.proofs.second_digit.Tie as tie
 

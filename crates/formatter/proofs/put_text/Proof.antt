@@ -5,7 +5,7 @@ use borrow.Author.Needs.{needs}
 use denote.Ref.{now}
 use lib.Dec.{lit≤}
 use lib.ListN.{length, length-append}
-use Rattle.rules.proofs.WriteLaws.{wrote, wrote-part, wrote-whole, wrote-short}
+use Rattle.rules.proofs.OnSpelling.WriteLaws.{wrote, wrote-part, wrote-whole, wrote-short}
 use Rattle.formatter.specs.Pieces.{yearText, separated, hourText, textOf}
 use Rattle.formatter.proofs.put_text.Statement.{statement}
 use Rattle.formatter.proofs.put_text.Tie as tie

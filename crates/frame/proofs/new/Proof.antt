@@ -5,7 +5,7 @@ use denote.Ref.{now}
 use lib.Dec.{lit<}
 use lib.ListN.{length-set}
 use lib.Seq.{length-sets}
-use Rattle.rules.proofs.AppendAnswers.{new-stores, new-kept, new-given}
+use Rattle.rules.proofs.OnBook.AppendAnswers.{new-stores, new-kept, new-given}
 use borrow.Author.Needs.{needs}
 use Rattle.frame.proofs.new.Statement.{statement}
 use Rattle.frame.proofs.new.Tie as tie

@@ -4,8 +4,8 @@ use native.Mathlib.Omega.{arith}
 use denote.Ref.{now}
 use lib.ListN.{drop}
 use Rattle.rules.specs.Refusals.{Gives}
-use Rattle.rules.proofs.PieceLaws.{piece-count}
-use Rattle.rules.proofs.FrameLaws.{short, none-said, over, past-end, version-not, uneven, cut-up}
+use Rattle.rules.proofs.OnBook.PieceLaws.{piece-count}
+use Rattle.rules.proofs.OnBook.FrameLaws.{short, none-said, over, past-end, version-not, uneven, cut-up}
 use borrow.Author.Needs.{needs}
 use Rattle.frame.specs.Views.{frameOf}
 use Rattle.frame.proofs.Counts.{counted-by}

@@ -1,7 +1,7 @@
 -- `frame::put_length` meets its contract: four stores, the largest byte first. Assumes nothing.
 use native.Mathlib.Omega.{arith}
 use lib.ListN.{length-set}
-use Rattle.rules.proofs.ByteLaws.{four-bytes-of}
+use Rattle.rules.proofs.OnWords.ByteLaws.{four-bytes-of}
 use borrow.Author.Needs.{needs}
 use Rattle.frame.proofs.put_length.Statement.{statement}
 use Rattle.frame.proofs.put_length.Tie as tie

@@ -5,8 +5,8 @@ use native.Mathlib.Omega.{arith}
 use borrow.Author.Needs.{needs}
 use Rattle.rules.specs.Refusals.{Answer, Gives, Refused, notOfKind}
 use Rattle.rules.specs.Calendar.{firstDay, dayOfYear, monthLength}
-use Rattle.rules.proofs.KindLaws.{yes-within}
-use Rattle.rules.proofs.CalendarLaws.{day-of-year-small}
+use Rattle.rules.proofs.OnKinds.KindLaws.{yes-within}
+use Rattle.rules.proofs.OnCalendar.CalendarLaws.{day-of-year-small}
 use Rattle.julian.specs.First.{firstDayAs, firstDayOf}
 use Rattle.julian.proofs.day_of_year.Statement.{statement}
 use Rattle.julian.proofs.day_of_year.Tie as tie

@@ -8,7 +8,7 @@ use borrow.Author.Tests.{le-leb, lt-leb}
 use Rattle.rules.specs.Refusals.{Refused, notOfKind}
 use Rattle.rules.specs.Calendar.{firstDay, sumFirst, lengths}
 use Rattle.julian.specs.First.{firstDayOf}
-use Rattle.rules.proofs.Arms.{past}
+use Rattle.rules.proofs.Shared.Arms.{past}
 use Rattle.julian.proofs.julian_ordinal_day.Statement.{statement}
 use Rattle.julian.proofs.julian_ordinal_day.Tie as tie
 

@@ -3,7 +3,7 @@ use Prim.Native.Nat.{ℕ, _<_}
 use native.Mathlib.Omega.{arith}
 use borrow.Author.Needs.{needs}
 use Rattle.rules.specs.Calendar.{monthDay}
-use Rattle.rules.proofs.CalendarLaws.{IsDay, is-day, length-small}
+use Rattle.rules.proofs.OnCalendar.CalendarLaws.{IsDay, is-day, length-small}
 use Rattle.julian.proofs.month_day_from_julian.Statement.{statement}
 use Rattle.julian.proofs.month_day_from_julian.Tie as tie
 

@@ -5,7 +5,7 @@ use native.Mathlib.Omega.{arith}
 use borrow.Author.Needs.{needs}
 use lib.ListN.{List·getD-eq-default}
 use Rattle.rules.specs.Calendar.{monthLength, lengths}
-use Rattle.rules.proofs.Table.{tabulated}
+use Rattle.rules.proofs.Shared.Table.{tabulated}
 use Rattle.julian.proofs.month_length.Statement.{statement}
 use Rattle.julian.proofs.month_length.Tie as tie
 

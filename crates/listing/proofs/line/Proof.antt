@@ -5,7 +5,7 @@ use borrow.Author.Needs.{needs}
 use denote.Ref.{now}
 use lib.ListN.{length}
 use Rattle.rules.specs.Listing.{lineOutput}
-use Rattle.rules.proofs.WriteLaws.{wrote, wrote-whole, wrote-short}
+use Rattle.rules.proofs.OnSpelling.WriteLaws.{wrote, wrote-whole, wrote-short}
 use Rattle.listing.proofs.LineTexts.{taken, copied}
 use Rattle.listing.proofs.line.Statement.{statement}
 use Rattle.listing.proofs.line.Tie as tie

@@ -5,7 +5,7 @@ use Prim.Native.Nat.{zero-le}
 use mathlib.Core.Path.{ap, _∙_, sym}
 use denote.Ref.{now}
 use lib.ListN.{length}
-use Rattle.rules.proofs.WriteLaws.{wrote, wrote-whole, wrote-short}
+use Rattle.rules.proofs.OnSpelling.WriteLaws.{wrote, wrote-whole, wrote-short}
 use Rattle.listing.specs.Views.{printed}
 use Rattle.listing.proofs.PassLaws.{lists, lists-none}
 use Rattle.listing.proofs.listing.Statement.{statement}

@@ -3,7 +3,7 @@ use borrow.Author.Needs.{needs}
 use native.Mathlib.Omega.{arith}
 use denote.Ref.{now}
 use Rattle.rules.specs.Listing.{listing}
-use Rattle.rules.proofs.LineLaws.{listing-long}
+use Rattle.rules.proofs.OnListing.LineLaws.{listing-long}
 use Rattle.listing.proofs.PassLaws.{whole}
 use Rattle.listing.proofs.print.Statement.{statement}
 use Rattle.listing.proofs.print.Tie as tie

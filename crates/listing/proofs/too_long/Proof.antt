@@ -5,7 +5,7 @@ use Prim.Native.Nat.{zero-le}
 use mathlib.Core.Path.{refl}
 use denote.Ref.{now}
 use Rattle.rules.specs.Words.{bytes}
-use Rattle.rules.proofs.WriteLaws.{wrote, wrote-whole, wrote-short}
+use Rattle.rules.proofs.OnSpelling.WriteLaws.{wrote, wrote-whole, wrote-short}
 use Rattle.listing.proofs.too_long.Statement.{statement}
 use Rattle.listing.proofs.too_long.Tie as tie
 

@@ -4,7 +4,7 @@ use lib.ListN.{drop}
 use Rattle.rules.specs.Kinds.{store}
 use Rattle.rules.specs.Text.{readText}
 use Rattle.rules.specs.Listing.{dateBy}
-use Rattle.rules.proofs.WriteLaws.{tail-lent}
+use Rattle.rules.proofs.OnSpelling.WriteLaws.{tail-lent}
 use Rattle.kinds.specs.Views.{kindOf}
 use Rattle.by_kind.specs.Views.{parsedAs}
 use borrow.Author.Needs.{needs}

@@ -1,7 +1,7 @@
 -- `rows::after` meets its contract: by the byte at the place. Assumes nothing.
 use native.Mathlib.Omega.{arith}
 use borrow.Author.Tests.{eq-eqb, ne-eqb}
-use Rattle.rules.proofs.Rests.{here, past}
+use Rattle.rules.proofs.Shared.Rests.{here, past}
 use Rattle.rows.specs.Views.{nowhere}
 use borrow.Author.Needs.{needs}
 use Rattle.rows.proofs.after.Statement.{statement}

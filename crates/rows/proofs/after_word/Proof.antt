@@ -6,7 +6,7 @@ use mathlib.Core.Path.{_≡_, refl, sym, ap, _∙_}
 use mathlib.Core.List.{List}
 use Prim.Native.Nat.{ℕ, _+_, _≤_, _-_}
 use lib.ListN.{length, drop}
-use Rattle.rules.proofs.Rests.{past}
+use Rattle.rules.proofs.Shared.Rests.{past}
 use Rattle.rows.specs.Rows.{afterWord}
 use Rattle.rows.proofs.Laws.{word-goes-on}
 use Rattle.rows.proofs.after_word.Statement.{statement}

@@ -1,5 +1,5 @@
 -- `rows::byte` meets its contract: by whether the place is in the row. Assumes nothing.
-use Rattle.rules.proofs.Rests.{here, past}
+use Rattle.rules.proofs.Shared.Rests.{here, past}
 use borrow.Author.Needs.{needs}
 use Rattle.rows.proofs.byte.Statement.{statement}
 use Rattle.rows.proofs.byte.Tie as tie

@@ -1,6 +1,6 @@
 -- `rows::digit_at` meets its contract: by the byte at the place. Assumes nothing.
 use borrow.Author.Tests.{le-leb, lt-leb}
-use Rattle.rules.proofs.Rests.{here, past}
+use Rattle.rules.proofs.Shared.Rests.{here, past}
 use borrow.Author.Needs.{needs}
 use Rattle.rows.proofs.digit_at.Statement.{statement}
 use Rattle.rows.proofs.digit_at.Tie as tie

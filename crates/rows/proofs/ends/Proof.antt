@@ -1,6 +1,6 @@
 -- `rows::ends` meets its contract: by the byte at the place, and whether one follows. Assumes nothing.
 use borrow.Author.Tests.{eq-eqb, ne-eqb}
-use Rattle.rules.proofs.Rests.{here, past}
+use Rattle.rules.proofs.Shared.Rests.{here, past}
 use Rattle.rows.proofs.Laws.{at-end}
 use borrow.Author.Needs.{needs}
 use Rattle.rows.proofs.ends.Statement.{statement}

@@ -1,6 +1,6 @@
 -- `rows::nothing` meets its contract: nothing stands at NOWHERE. Assumes nothing.
 use native.Mathlib.Omega.{arith}
-use Rattle.rules.proofs.Rests.{past}
+use Rattle.rules.proofs.Shared.Rests.{past}
 use Rattle.rows.specs.Views.{nowhere}
 use Rattle.rows.proofs.nothing.Statement.{statement}
 use Rattle.rows.proofs.nothing.Tie as tie

@@ -4,7 +4,7 @@ use mathlib.Core.Path.{_∙_}
 use mir.Syntax.{w32}
 use borrow.Author.Tests.{le-leb, lt-leb}
 use Rattle.sign.proofs.Bits.{held}
-use Rattle.rules.proofs.Rests.{past}
+use Rattle.rules.proofs.Shared.Rests.{past}
 use Rattle.rows.specs.Rows.{wholeOf}
 use Rattle.rows.specs.Views.{nowhere}
 use Rattle.rows.proofs.Laws.{read-of}

@@ -7,7 +7,7 @@ use denote.Ref.{now}
 use lib.ListN.{length}
 use Rattle.rules.specs.Refusals.{Gives}
 use Rattle.rules.specs.Book.{headSize, lengthSaid, check}
-use Rattle.rules.proofs.AppendAnswers.{append-refused, append-bad, append-full, append-short, append-writes}
+use Rattle.rules.proofs.OnBook.AppendAnswers.{append-refused, append-bad, append-full, append-short, append-writes}
 use Rattle.book.specs.Views.{bookOf, checkedAs}
 use Rattle.book.proofs.Laws.{count-tells}
 use borrow.Author.Needs.{needs}

@@ -5,8 +5,8 @@ use denote.Ref.{now}
 use lib.ListN.{length}
 use Rattle.rules.specs.Refusals.{Gives, _then_}
 use Rattle.rules.specs.Book.{framed}
-use Rattle.rules.proofs.FrameLaws.{count-fits}
-use Rattle.rules.proofs.BookLaws.{frame-refused, one-bad, all-good}
+use Rattle.rules.proofs.OnBook.FrameLaws.{count-fits}
+use Rattle.rules.proofs.OnBook.BookLaws.{frame-refused, one-bad, all-good}
 use Rattle.frame.specs.Views.{frameOf, framedAs}
 use Rattle.frame.proofs.Counts.{counted-is}
 use Rattle.book.specs.Views.{bookOf}

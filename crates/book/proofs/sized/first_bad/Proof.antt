@@ -5,7 +5,7 @@ use native.Mathlib.Nat.{sub-zero, zero-add, zero-mul, mul-le-mul-right}
 use native.Mathlib.Omega.{arith}
 use lib.ListN.{drop}
 use Rattle.rules.specs.Book.{headSize, pieces, firstBad}
-use Rattle.rules.proofs.PieceLaws.{leftFrom, search-on, search-stops, search-ends}
+use Rattle.rules.proofs.OnBook.PieceLaws.{leftFrom, search-on, search-stops, search-ends}
 use Rattle.book.specs.Views.{soundSized}
 use Rattle.book.proofs.sized.first_bad.Statement.{statement}
 use Rattle.book.proofs.sized.first_bad.Tie as tie

@@ -2,7 +2,7 @@
 use mathlib.Core.Path.{sym, ap, _∙_}
 use denote.Ref.{now}
 use Rattle.rules.specs.Refusals.{given}
-use Rattle.rules.proofs.BookLaws.{entry-by, record-refused, record-bad}
+use Rattle.rules.proofs.OnBook.BookLaws.{entry-by, record-refused, record-bad}
 use Rattle.book.specs.Views.{bookOf, checkedAs, inBits}
 use borrow.Author.Needs.{needs}
 use Rattle.book.proofs.sized.record_of.Statement.{statement}

@@ -5,7 +5,7 @@ use native.Mathlib.Omega.{arith}
 use mir.Syntax.{w16}
 use Rattle.sign.proofs.Bits.{held}
 use Rattle.rules.specs.Book.{twosComplement}
-use Rattle.rules.proofs.ByteLaws.{two-bytes-of}
+use Rattle.rules.proofs.OnWords.ByteLaws.{two-bytes-of}
 use borrow.Author.Needs.{needs}
 use Rattle.book.proofs.slots.bytes_of.Statement.{statement}
 use Rattle.book.proofs.slots.bytes_of.Tie as tie

@@ -1,7 +1,7 @@
 -- `date::Date::from_binary` meets its contract: the full decoder at D. Assumes nothing.
 use borrow.Author.Needs.{needs}
 use Rattle.rules.specs.Kinds.{kD}
-use Rattle.number.proofs.Laws.{read-told}
+use Rattle.number.proofs.Laws.{read-answers}
 use Rattle.date.proofs.Date.from_binary.Statement.{statement}
 use Rattle.date.proofs.Date.from_binary.Tie as tie
 
@@ -10,5 +10,5 @@ from-binary-spec =
     tie.close
     (tie.spec
     (λ c κs. search needs) (λ c. search needs) (λ c. search needs)
-    (λ c. read-told kD (c .before .before .before .before .fits .s) (c .before .before .before .from-binary .ensures) (c .before .read .given .1))
-    (λ c. read-told kD (c .before .before .before .fits .s) (c .before .before .from-binary .ensures) (c .enum-told .given .1)))
+    (λ c. read-answers kD (c .before .before .before .before .fits .s) (c .before .before .before .from-binary .ensures) (c .before .read .given .1))
+    (λ c. read-answers kD (c .before .before .before .fits .s) (c .before .before .from-binary .ensures) (c .enum-told .given .1)))

@@ -1,7 +1,7 @@
 -- `date::Date::from_binary_heuristic` meets its contract: the guess at D. Assumes nothing.
 use borrow.Author.Needs.{needs}
 use Rattle.rules.specs.Kinds.{kD}
-use Rattle.number.proofs.Laws.{guess-told}
+use Rattle.number.proofs.Laws.{guess-answers}
 use Rattle.date.proofs.Date.from_binary_heuristic.Statement.{statement}
 use Rattle.date.proofs.Date.from_binary_heuristic.Tie as tie
 
@@ -10,5 +10,5 @@ from-binary-heuristic-spec =
     tie.close
     (tie.spec
     (λ c κs. search needs) (λ c. search needs) (λ c. search needs)
-    (λ c. guess-told kD (c .before .before .before .before .fits .s) (c .before .before .before .from-binary-heuristic .ensures) (c .before .guess .given .1))
-    (λ c. guess-told kD (c .before .before .before .fits .s) (c .before .before .from-binary-heuristic .ensures) (c .enum-told .given .1)))
+    (λ c. guess-answers kD (c .before .before .before .before .fits .s) (c .before .before .before .from-binary-heuristic .ensures) (c .before .guess .given .1))
+    (λ c. guess-answers kD (c .before .before .before .fits .s) (c .before .before .from-binary-heuristic .ensures) (c .enum-told .given .1)))

@@ -1,7 +1,7 @@
 -- `date_hour::DateHour::from_binary` meets its contract: the full decoder at H. Assumes nothing.
 use borrow.Author.Needs.{needs}
 use Rattle.rules.specs.Kinds.{kH}
-use Rattle.number.proofs.Laws.{read-told}
+use Rattle.number.proofs.Laws.{read-answers}
 use Rattle.date_hour.proofs.DateHour.from_binary.Statement.{statement}
 use Rattle.date_hour.proofs.DateHour.from_binary.Tie as tie
 
@@ -10,5 +10,5 @@ from-binary-spec =
     tie.close
     (tie.spec
     (λ c κs. search needs) (λ c. search needs) (λ c. search needs)
-    (λ c. read-told kH (c .before .before .before .before .fits .s) (c .before .before .before .from-binary .ensures) (c .before .read .given .1))
-    (λ c. read-told kH (c .before .before .before .fits .s) (c .before .before .from-binary .ensures) (c .enum-told .given .1)))
+    (λ c. read-answers kH (c .before .before .before .before .fits .s) (c .before .before .before .from-binary .ensures) (c .before .read .given .1))
+    (λ c. read-answers kH (c .before .before .before .fits .s) (c .before .before .from-binary .ensures) (c .enum-told .given .1)))

@@ -6,7 +6,7 @@ use denote.Ref.{now}
 use lib.ListN.{length-drop, length-set}
 use lib.Seq.{sets-eq}
 use Rattle.rules.specs.Spelling.{filled}
-use Rattle.rules.proofs.WriteLaws.{marked-tail, tail-lent}
+use Rattle.rules.proofs.OnSpelling.WriteLaws.{byte-tail, tail-lent}
 use Rattle.formatter.proofs.PieceLaws.{two-room, one-room}
 use Rattle.formatter.proofs.pieces.put_separated.Statement.{statement}
 use Rattle.formatter.proofs.pieces.put_separated.Tie as tie
@@ -37,7 +37,7 @@ slice-write-out-3 c =
 
 returns : tie.Need-returns
 returns c =
-    let r = two-room _ _ _ (c .before .before .before .before .before .before .before .pre .0) (c .before .before .before .before .before .takes-two .ensures) (c .before .before .before .before .if1 .taken) (c .before .before .before .before .before .before .before .pre .1) in rw (c .before .before .before .before .before .takes-two .ensures, c .before .before .before .before .if1 .taken) (marked-tail (now (c .before .before .before .before .before .before .before .args .out)) (filled 2 (c .before .before .before .before .before .before .before .args .n)) _ _ (omega arith) (c .before .before .put-two .ensures))
+    let r = two-room _ _ _ (c .before .before .before .before .before .before .before .pre .0) (c .before .before .before .before .before .takes-two .ensures) (c .before .before .before .before .if1 .taken) (c .before .before .before .before .before .before .before .pre .1) in rw (c .before .before .before .before .before .takes-two .ensures, c .before .before .before .before .if1 .taken) (byte-tail (now (c .before .before .before .before .before .before .before .args .out)) (filled 2 (c .before .before .before .before .before .before .before .args .n)) _ _ (omega arith) (c .before .before .put-two .ensures))
 
 returns-2 : tie.Need-returns-2
 returns-2 c =

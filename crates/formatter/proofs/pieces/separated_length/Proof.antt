@@ -1,7 +1,7 @@
 -- `formatter::pieces::separated_length` meets its contract. Assumes nothing.
 use borrow.Author.Needs.{needs}
 use lib.Dec.{lit≤}
-use Rattle.rules.proofs.DecimalLaws.{filled-two}
+use Rattle.rules.proofs.OnSpelling.DecimalLaws.{filled-two}
 use Rattle.formatter.proofs.pieces.separated_length.Statement.{statement}
 use Rattle.formatter.proofs.pieces.separated_length.Tie as tie
 

@@ -1,7 +1,7 @@
 -- `formatter::years::at_least` meets its contract. Assumes nothing.
 use native.Mathlib.Omega.{arith}
 use borrow.Author.Needs.{needs}
-use Rattle.rules.proofs.DecimalLaws.{digits-most}
+use Rattle.rules.proofs.OnSpelling.DecimalLaws.{digits-most}
 use Rattle.digits.proofs.Places.{filled-own, filled-more}
 use Rattle.formatter.proofs.years.at_least.Statement.{statement}
 use Rattle.formatter.proofs.years.at_least.Tie as tie

@@ -5,7 +5,7 @@ use borrow.Author.Needs.{needs}
 use borrow.Author.Tests.{eq-eqb, ne-eqb}
 use denote.Ref.{now}
 use lib.ListN.{length, length-drop}
-use Rattle.rules.proofs.WriteLaws.{marked-tail, tail-lent}
+use Rattle.rules.proofs.OnSpelling.WriteLaws.{byte-tail, tail-lent}
 use Rattle.digits.specs.Places.{digitsIn}
 use Rattle.digits.proofs.Places.{digits-length}
 use Rattle.formatter.specs.Pieces.{yearText}
@@ -41,7 +41,7 @@ returns c =
 returns-2 : tie.Need-returns-2
 unfolding yearText
 returns-2 c =
-    let r = signed (c .before .before .before .before) in rw (ne-eqb _ 0 (c .before .before .before .before .if1 .left)) (marked-tail (now (c .before .before .before .before .before .before .args .out)) (digitsIn (c .before .before .before .before .before .before .args .year .digits) (c .before .before .before .before .before .before .args .year .size)) _ _ (omega arith) (c .before .before .put-digits2 .ensures))
+    let r = signed (c .before .before .before .before) in rw (ne-eqb _ 0 (c .before .before .before .before .if1 .left)) (byte-tail (now (c .before .before .before .before .before .before .args .out)) (digitsIn (c .before .before .before .before .before .before .args .year .digits) (c .before .before .before .before .before .before .args .year .size)) _ _ (omega arith) (c .before .before .put-digits2 .ensures))
 
 pub put-year-spec : {M : Type 1} → statement M
 put-year-spec =

@@ -2,7 +2,7 @@
 use borrow.Author.Needs.{needs}
 use mir.Syntax.{w16}
 use Rattle.sign.proofs.Bits.{held}
-use Rattle.rules.proofs.PackLaws.{same-fields}
+use Rattle.rules.proofs.OnKinds.PackLaws.{same-fields}
 use Rattle.kinds.proofs.word.fields_of.Statement.{statement}
 use Rattle.kinds.proofs.word.fields_of.Tie as tie
 

@@ -8,7 +8,7 @@ use denote.Ref.{now}
 use lib.ListN.{length-set, length-drop}
 use Rattle.rules.specs.Kinds.{unpacked}
 use Rattle.rules.specs.Spelling.{dotted, iso}
-use Rattle.rules.proofs.WriteLaws.{tail-lent, wrote, wrote-byte, wrote-part, wrote-length, wrote-placed}
+use Rattle.rules.proofs.OnSpelling.WriteLaws.{tail-lent, wrote, wrote-byte, wrote-part, wrote-length, wrote-placed}
 use Rattle.kinds.specs.Views.{kindOf, bitsOf}
 use Rattle.listing.proofs.output.put_date.Statement.{statement}
 use Rattle.listing.proofs.output.put_date.Tie as tie

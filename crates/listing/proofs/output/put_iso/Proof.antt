@@ -2,7 +2,7 @@
 use borrow.Author.Needs.{needs}
 use denote.Ref.{now}
 use Rattle.rules.specs.Spelling.{iso}
-use Rattle.rules.proofs.LengthLaws.{text-lengths}
+use Rattle.rules.proofs.OnSpelling.LengthLaws.{text-lengths}
 use Rattle.kinds.specs.Views.{kindOf, bitsOf}
 use Rattle.listing.proofs.LineTexts.{fits}
 use Rattle.listing.proofs.output.put_iso.Statement.{statement}

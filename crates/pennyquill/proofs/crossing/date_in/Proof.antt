@@ -2,7 +2,7 @@
 use mathlib.Core.Path.{refl, _∙_}
 use mir.Syntax.{w16}
 use Rattle.sign.proofs.Bits.{held}
-use Rattle.rules.proofs.PackLaws.{same-stored}
+use Rattle.rules.proofs.OnKinds.PackLaws.{same-stored}
 use borrow.Author.Needs.{needs}
 use Rattle.pennyquill.proofs.crossing.date_in.Statement.{statement}
 use Rattle.pennyquill.proofs.crossing.date_in.Tie as tie

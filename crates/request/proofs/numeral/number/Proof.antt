@@ -1,6 +1,6 @@
 -- `request::numeral::number` meets its contract: the text from the place on. Assumes nothing.
-use Rattle.rules.proofs.Rests.{past}
-use Rattle.rules.proofs.WriteLaws.{tail-lent}
+use Rattle.rules.proofs.Shared.Rests.{past}
+use Rattle.rules.proofs.OnSpelling.WriteLaws.{tail-lent}
 use Rattle.rules.specs.Listing.{lineNumber}
 use borrow.Author.Needs.{needs}
 use Rattle.request.proofs.numeral.number.Statement.{statement}

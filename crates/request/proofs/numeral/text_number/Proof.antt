@@ -1,7 +1,7 @@
 -- `request::numeral::text_number` meets its contract: a leading number of few bytes, to the end. Assumes nothing.
 use mir.Syntax.{w64}
 use Rattle.sign.proofs.Bits.{held}
-use Rattle.rules.proofs.Rests.{here, past}
+use Rattle.rules.proofs.Shared.Rests.{here, past}
 use Rattle.request.proofs.NumeralLaws.{line-number}
 use borrow.Author.Needs.{needs}
 use Rattle.request.proofs.numeral.text_number.Statement.{statement}

@@ -2,7 +2,7 @@
 use borrow.Author.Needs.{needs}
 use mathlib.Core.Path.{refl}
 use Rattle.rules.specs.Kinds.{kU}
-use Rattle.kinds.proofs.Laws.{made-told}
+use Rattle.kinds.proofs.Laws.{made-answers}
 use Rattle.uniform_date.proofs.UniformDate.from_ymd_opt.Statement.{statement}
 use Rattle.uniform_date.proofs.UniformDate.from_ymd_opt.Tie as tie
 
@@ -11,5 +11,5 @@ from-ymd-opt-spec =
     tie.close
     (tie.spec
     (λ c κs. search needs) (λ c. search needs) (λ c. search needs)
-    (λ c. made-told kU _ refl (c .before .before .before .before .fits .year) (c .before .before .before .make .ensures) (c .before .made .given .1))
-    (λ c. made-told kU _ refl (c .before .before .before .fits .year) (c .before .before .make .ensures) (c .enum-told .given .1)))
+    (λ c. made-answers kU _ refl (c .before .before .before .before .fits .year) (c .before .before .before .make .ensures) (c .before .made .given .1))
+    (λ c. made-answers kU _ refl (c .before .before .before .fits .year) (c .before .before .make .ensures) (c .enum-told .given .1)))

@@ -1,0 +1,2 @@
+-- Day of year, month and day.
+pub mod CalendarLaws

@@ -1,0 +1,5 @@
+-- Differences, additions and the order.
+pub mod OrderLaws
+pub mod DayLaws
+pub mod AddLaws
+pub mod DifferenceLaws

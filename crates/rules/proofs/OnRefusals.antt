@@ -1,0 +1,3 @@
+-- What an answer can be, and that a contract over a view of it allows one result.
+pub mod Determined
+pub mod OutcomeLaws

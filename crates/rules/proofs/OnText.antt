@@ -1,0 +1,2 @@
+-- A date's own text read back.
+pub mod TextBack

@@ -1,0 +1,3 @@
+-- Numbers in bytes and back; texts of the same bytes.
+pub mod ByteLaws
+pub mod SameLaws

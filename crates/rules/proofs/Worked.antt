@@ -1,0 +1,6 @@
+-- Worked cases by computation.
+pub mod Cases
+pub mod Pairs
+pub mod Bounds
+pub mod Texts
+pub mod Lines

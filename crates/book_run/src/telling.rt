@@ -1,6 +1,5 @@
 // What is told of the lines of a script. These functions write, which no contract can say; `weighed` is the sum that stands for a long buffer.
 ghost use Prim.Native.Nat.{_<_, _≤_};
-ghost use lib.ListN.{length};
 use crate::operations::Told;
 use kinds::Kind;
 use kinds::Packed;
@@ -27,20 +26,9 @@ fn counted(n: usize) -> u64 {
     n as u64
 }
 
-// The length of a row without its line end.
-fn text_length(row: &[u8]) -> usize
-    ensures { λ r. ⌜ r ≤ length (now (row .entry)) ⌝ }
-{
-    if 0 < row.len() {
-        if row[row.len() - 1] == b'\n' {
-            return row.len() - 1;
-        }
-    }
-    row.len()
-}
-
+// A row without its line end.
 fn line(row: &[u8]) {
-    let n = text_length(row);
+    let n = bytes::scan::find(row, 0, row.len(), b'\n');
     print(&row[..n]);
 }
 

@@ -1,4 +1,4 @@
-// The plain date (D): a day of the calendar, without an hour.
+// The plain date (D): a day of the calendar, without an hour. Its fast path is the crate `fast_date`.
 ghost use mathlib.Core.Path.{_≡_};
 ghost use Prim.Native.Nat.{_≤_};
 ghost use lib.ListN.{length};

@@ -91,7 +91,8 @@ pub fn listing(input: &[u8], out: &mut [u8]) -> Listed
     Listed::Length(n)
 }
 
-// The same in a buffer that is never too short, as the program lends it: 12 bytes for each byte of the longest input.
+// The same in a buffer that is never too short, as the program lends it: 12 bytes for each byte of the longest input, and no listing
+// has more, so that the last arm is never taken.
 pub fn print(input: &[u8], out: &mut [u8]) -> usize
     requires { ⌜ 786420 ≤ length (now out) ⌝ }
     ensures { λ r. ⌜ (r ≡ length (listing (now (input .entry)))) × (r ≤ length (now (out .entry))) ⌝ }

@@ -28,7 +28,7 @@ pub(crate) fn put_refused(out: &mut [u8], front: u8, n: u8) -> usize
     12
 }
 
-// The dotted text of a date of the kind.
+// The dotted text of a date of the kind. It is never refused: the date is one of the kind, and no text has over 15 bytes.
 fn put_dotted(out: &mut [u8], kind: Kind, date: Packed) -> usize
     requires { ⌜ (15 ≤ length (now out)) × (given (handed (kindOf kind) (bitsOf date)) ≡ true) ⌝ }
     ensures { λ r. ⌜ (r ≡ length (dotted (kindOf kind) (unpacked (bitsOf date)))) × (r ≤ 15) ⌝ }
@@ -42,7 +42,7 @@ fn put_dotted(out: &mut [u8], kind: Kind, date: Packed) -> usize
     }
 }
 
-// The ISO text of a date of the kind.
+// The ISO text of a date of the kind, which is never refused either.
 fn put_iso(out: &mut [u8], kind: Kind, date: Packed) -> usize
     requires { ⌜ (15 ≤ length (now out)) × (given (handed (kindOf kind) (bitsOf date)) ≡ true) ⌝ }
     ensures { λ r. ⌜ (r ≡ length (iso (kindOf kind) (unpacked (bitsOf date)))) × (r ≤ 15) ⌝ }

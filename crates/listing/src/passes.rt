@@ -23,7 +23,7 @@ pub(crate) fn measure(s: &[u8]) -> usize
     total
 }
 
-// One line's output, in a buffer with room for it.
+// One line's output, in a buffer with room for it, which is therefore never too short.
 fn put_line(s: &[u8], out: &mut [u8]) -> usize
     requires { ⌜ length (lineOutput (now s)) ≤ length (now out) ⌝ }
     ensures { λ r. ⌜ r ≡ length (lineOutput (now (s .entry))) ⌝ }

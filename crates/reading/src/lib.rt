@@ -1,4 +1,5 @@
-// A text after its leading number, for every kind: nothing follows and it is a number text, or the dotted part follows.
+// A text after its leading number, for every kind: nothing follows and it is a number text, or the dotted part follows, which the
+// crate `dotted` reads.
 ghost use mathlib.Core.Path.{_≡_};
 ghost use lib.ListN.{drop};
 ghost use Rattle.rules.specs.Words.{fits32};

@@ -1,6 +1,6 @@
 // Document 01's table of refusal numbers, for the code: each by the name that `Refusals` of `rules` has for it.
 
-// A text over 16 bytes.
+// A text over the limit.
 pub const TOO_LONG: u8 = 1;
 
 // A text not of that kind, or no such number after way b or g.

@@ -6,7 +6,7 @@ use Rattle.book_run.proofs.telling.line.Statement.{statement}
 use Rattle.book_run.proofs.telling.line.Tie as tie
 
 slice-aggregate-print : tie.Need-slice-aggregate-print
-slice-aggregate-print c = simp length-take (omega (arith, c .before .text-length .ensures))
+slice-aggregate-print c = simp length-take (omega (arith, c .before .find .ensures .1))
 
 pub line-spec : {M : Type 1} → statement M
 line-spec = tie.close (tie.spec (λ c κs. search needs) slice-aggregate-print (λ c κs. search needs) (λ c. search needs))

@@ -12,7 +12,7 @@ use Rattle.rules.specs.Words.{within, bigEndian}
 use Rattle.rules.specs.Refusals.{Answer, Gives, Refused, RefusedAt, _then_, demand, notOfKind, badRecord}
 use Rattle.rules.specs.Kinds.{Kind, Fields, Stored, ofKind, made, markOf, markAllowed, unpacked, handed, ofDate}
 use Rattle.rules.specs.Spelling.{dotted, iso, hasIsoDate, isoDateAlone, exchange, putAnswer}
-use Rattle.rules.specs.Book.{lengthSize, headSize, kindCode, kindOfCode, lengthSaid, versionOf, framed, firstBad, allPass, records, check, pick, recordAt, appendAnswer, yearOfTwos, entryFrom, entryOf, version1, entryAt, entryFor, soundBy}
+use Rattle.rules.specs.Book.{lengthSize, headSize, lengthLimit, kindCode, kindOfCode, lengthSaid, versionOf, framed, firstBad, allPass, records, check, pick, recordAt, appendAnswer, yearOfTwos, entryFrom, entryOf, version1, entryAt, entryFor, soundBy}
 use Rattle.rules.proofs.OnRefusals.OutcomeLaws.{Outcome, gives, refuses}
 use Rattle.rules.proofs.OnKinds.CodeLaws.{outcome-kind}
 use Rattle.rules.proofs.OnKinds.KindLaws.{high}
@@ -116,17 +116,21 @@ pass-small n test rs few = inner (ltb (firstBad test rs) (length rs)) refl
     inner true p = let h = ltb-true (firstBad test rs) (length rs) p in omega arith
     inner false p = few
 
+-- the bytes of a record
+abbrev size : ℕ
+size = version1 .frame .size
+
 module _ (s : List ℕ) where
   framed-small : Small FewRecords (framed (version1 .frame) s)
   unfolding framed
   framed-small =
       let next = small-demand FewRecords in
       next (leb headSize (length s)) _ _ (λ head.
-      next (within 1 20481 (lengthSaid s)) _ _ (λ said.
+      next (within 1 (lengthLimit (version1 .frame)) (lengthSaid s)) _ _ (λ said.
       next (leb (lengthSaid s + lengthSize) (length s)) _ _ (λ fits.
-      next (eqb (versionOf s) 1) _ _ (λ version.
-      next (eqb ((lengthSaid s - 1) % 5) 0) _ _ (λ even.
-      (let n = piece-count ((lengthSaid s - 1) / 5) 5 (drop 5 s) in let most = high 1 20481 (lengthSaid s) said in omega arith))))))
+      next (eqb (versionOf s) (version1 .frame .version)) _ _ (λ version.
+      next (eqb ((lengthSaid s - 1) % size) 0) _ _ (λ even.
+      (let n = piece-count ((lengthSaid s - 1) / size) size (drop headSize s) in let most = high 1 (lengthLimit (version1 .frame)) (lengthSaid s) said in omega arith))))))
 
   records-small : Small FewRecords (records version1 s)
   unfolding records

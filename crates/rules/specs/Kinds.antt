@@ -111,7 +111,7 @@ wordOf mark f = packed f + mark
 abbrev pub markOf : ℕ → ℕ
 markOf word = word % 4
 
--- a date that is made has none
+-- no mark: two low bits that are 0
 abbrev pub noMark : ℕ
 noMark = 0
 
@@ -124,6 +124,7 @@ pub record Stored : Type 0 where
   pub year : ℤ
   pub word : ℕ
 
+-- a date of these fields, with a mark; and one that is made, which has none
 abbrev pub storedWith : ℕ → Fields → Stored
 storedWith mark f = record { year = f .year; word = wordOf mark f }
 

@@ -1,0 +1,5 @@
+-- The laws on each file of `specs`, in a folder of that name (`OnEntries` on `Entries`); and worked cases.
+pub mod OnEntries
+pub mod OnLaid
+pub mod OnFieldTable
+pub mod Worked

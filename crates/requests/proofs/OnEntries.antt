@@ -1,0 +1,4 @@
+-- Entries kept by a test of their key, in order, declared and removed.
+pub mod KeepLaws
+pub mod OrderLaws
+pub mod ChangeLaws

@@ -1,0 +1,4 @@
+-- The field table.
+pub mod EntryLaws
+pub mod HeldLaws
+pub mod BufferLaws

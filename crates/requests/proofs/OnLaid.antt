@@ -1,0 +1,4 @@
+-- Bytes cut into pieces, and pieces laid out as bytes.
+pub mod CutLaws
+pub mod TurnLaws
+pub mod LaidLaws

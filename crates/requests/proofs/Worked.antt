@@ -1,0 +1,2 @@
+-- Worked cases, by computation.
+pub mod Tables

@@ -1,0 +1,1 @@
+-- Worked cases of #101. Assumes nothing.

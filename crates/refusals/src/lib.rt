@@ -38,3 +38,12 @@ pub const NO_ROOM: u8 = 12;
 
 // A book: no record at that place.
 pub const NO_RECORD: u8 = 13;
+
+// A field table, or a call on one: entries out of order, a field that is none, or a kind not allowed.
+pub const BAD_ENTRY: u8 = 14;
+
+// A field table: full, or no room for a new field.
+pub const TABLE_FULL: u8 = 15;
+
+// A field table: no such field to remove.
+pub const NOT_THERE: u8 = 16;

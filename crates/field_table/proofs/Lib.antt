@@ -1,0 +1,5 @@
+pub mod Keys
+pub mod Orders
+pub mod Finds
+pub mod Changes
+pub mod Calls

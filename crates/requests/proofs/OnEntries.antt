@@ -1,4 +1,5 @@
 -- Entries kept by a test of their key, in order, declared and removed.
 pub mod KeepLaws
+pub mod EachLaws
 pub mod OrderLaws
 pub mod ChangeLaws

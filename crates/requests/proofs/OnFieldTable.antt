@@ -2,3 +2,5 @@
 pub mod EntryLaws
 pub mod HeldLaws
 pub mod BufferLaws
+pub mod AfterLaws
+pub mod LookupLaws

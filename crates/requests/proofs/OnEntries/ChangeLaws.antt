@@ -1,12 +1,12 @@
--- What declaring an entry and removing one leave: ascending entries, what a test of the key keeps of them (another key, another league),
+-- What declaring an entry and removing one leave: ascending entries, what a test of the key keeps of them (another key),
 -- and the same done in place. Over the entries and the key. Assumes nothing.
 use mathlib.Core.Path.{_≡_, refl, sym, ap, _∙_}
 use mathlib.Core.Bool.{Bool, true, false, not}
-use mathlib.Core.List.{List, [], _∷_, _++_, map}
-use Prim.Native.Nat.{ℕ, suc, _+_, _<_}
+use mathlib.Core.List.{List, [], _∷_, _++_}
+use Prim.Native.Nat.{ℕ, _+_, _<_}
 use native.Mathlib.Omega.{arith}
 use lib.Dec.{ltb, eqb}
-use lib.ListN.{length, getD, take, drop}
+use lib.ListN.{length, take, drop, length-append}
 use lib.Seq.{drop-drop}
 use borrow.Author.Tests.{ltb-true, eq-eqb, ne-eqb, eqb-true}
 use Rattle.requests.specs.Entries.{below, same, above, other, ascends, keep, place, declare, remove}
@@ -54,7 +54,7 @@ module _ {A : Type 0} (key : A → ℕ) where
   kept-none : (p : ℕ → Bool) (q : ℕ) (rs : List A) → p q ≡ false → keep key p (keep key (same q) rs) ≡ []
   kept-none p q rs h = keep-outside key p (same q) (λ x e. ap p (eqb-true x q e) ∙ h) rs
 
-  -- ---- a test that does not pass the key changed: another key, or another league
+  -- ---- a test that does not pass the key changed: another key
 
   pub declare-other : (p : ℕ → Bool) (low : ℕ) (r : A) (rs : List A) → p (key r) ≡ false → ascends key low rs ≡ true
       → keep key p (declare key r rs) ≡ keep key p rs
@@ -69,24 +69,7 @@ module _ {A : Type 0} (key : A → ℕ) where
       keep-swap key p (other q) rs
       ∙ keep-inside key (other q) p (λ x e. ap not (ne-eqb x q (λ z. let w : _≡_ {A = ℕ} 0 1 = cc (ap p z) in omega arith))) rs
 
-  -- ---- a test that passes it: the same change of what it keeps
-
-  pub declare-own : (p : ℕ → Bool) (r : A) (rs : List A) → p (key r) ≡ true → keep key p (declare key r rs) ≡ declare key r (keep key p rs)
-  unfolding declare keep
-  declare-own p r rs h =
-      keep-append key p (keep key (below (key r)) rs) (r ∷ keep key (above (key r)) rs)
-      ∙ rw (h, keep-swap key p (below (key r)) rs, keep-swap key p (above (key r)) rs)
-
-  pub remove-own : (p : ℕ → Bool) (q : ℕ) (rs : List A) → keep key p (remove key q rs) ≡ remove key q (keep key p rs)
-  unfolding remove
-  remove-own p q rs = keep-swap key p (other q) rs
-
   -- ---- finding
-
-  -- what is found depends on what a test keeps that passes the key
-  pub found-within : (p : ℕ → Bool) (q : ℕ) (rs : List A) → p q ≡ true → keep key (same q) (keep key p rs) ≡ keep key (same q) rs
-  found-within p q rs h =
-      keep-swap key (same q) p rs ∙ keep-inside key p (same q) (λ x e. ap p (eqb-true x q e) ∙ h) rs
 
   pub found-declared : (r : A) (rs : List A) → keep key (same (key r)) (declare key r rs) ≡ r ∷ []
   unfolding declare keep
@@ -144,26 +127,18 @@ module _ {A : Type 0} (key : A → ℕ) where
   declare-remove low r rs a n =
       declare-other (other (key r)) low r rs (ap not (eq-eqb (key r) (key r) refl)) a ∙ remove-absent (key r) low rs a n
 
-  -- ---- two lists of which a test keeps the same: what is found, declared or removed within the test is the same of both
+-- ---- how many there are then
 
-  module _ (p : ℕ → Bool) (rs rs′ : List A) (e : keep key p rs ≡ keep key p rs′) where
-    pub same-found : (q : ℕ) → p q ≡ true → keep key (same q) rs ≡ keep key (same q) rs′
-    same-found q h = sym (found-within p q rs h) ∙ ap (keep key (same q)) e ∙ found-within p q rs′ h
+module _ {A : Type 0} (key : A → ℕ) (low : ℕ) (rs : List A) (a : ascends key low rs ≡ true) where
+  pub declare-count : (r : A) → length (declare key r rs) + length (keep key (same (key r)) rs) ≡ length rs + 1
+  unfolding declare
+  declare-count r =
+      let n : length rs ≡ length (keep key (below (key r)) rs) + (length (keep key (same (key r)) rs) + length (keep key (above (key r)) rs)) =
+      ap length (parts key (key r) low rs a) ∙ rw (length-append, length-append) in
+      rw length-append (omega arith)
 
-    pub same-declared : (r : A) → p (key r) ≡ true → keep key p (declare key r rs) ≡ keep key p (declare key r rs′)
-    same-declared r h = declare-own p r rs h ∙ ap (declare key r) e ∙ sym (declare-own p r rs′ h)
-
-    pub same-removed : (q : ℕ) → keep key p (remove key q rs) ≡ keep key p (remove key q rs′)
-    same-removed q = remove-own p q rs ∙ ap (remove key q) e ∙ sym (remove-own p q rs′)
-
--- ---- entries of another kind, whose keys are c more: they ascend as the others do
-
-pub moved-ascends : {A B : Type 0} (key : A → ℕ) (key′ : B → ℕ) (f : A → B) (c : ℕ) (d : A) (low : ℕ) (rs : List A)
-    → ((i : ℕ) → i < length rs → key′ (f (getD rs i d)) ≡ c + key (getD rs i d)) → ascends key low rs ≡ true → ascends key′ (c + low) (map f rs) ≡ true
-unfolding ascends
-moved-ascends key key′ f c d low [] h a = refl
-moved-ascends key key′ f c d low (r ∷ rs) h a =
-    let g = first-rest key low r rs a in
-    let e : key′ (f r) ≡ c + key r = h 0 (omega arith) in
-    let more = moved-ascends key key′ f c d (key r) rs (λ i l. h (suc i) (omega arith)) (g .1) in
-    and-then key′ (c + low) (f r) (map f rs) (omega arith) (rw e more)
+  pub remove-count : (q : ℕ) → length (remove key q rs) + length (keep key (same q) rs) ≡ length rs
+  remove-count q =
+      let n : length rs ≡ length (keep key (below q) rs) + (length (keep key (same q) rs) + length (keep key (above q) rs)) =
+      ap length (parts key q low rs a) ∙ rw (length-append, length-append) in
+      rw (remove-parts key q low rs a, length-append) (omega arith)

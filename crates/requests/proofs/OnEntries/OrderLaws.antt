@@ -170,15 +170,3 @@ module _ {A : Type 0} (key : A → ℕ) where
       let n : length rs ≡ length (keep key (below q) rs) + suc (length (keep key (above q) rs)) =
       ap length (parts q low rs a) ∙ rw (length-append, e) in
       omega arith
-
-  -- the entries from key lo up to below hi are as many as the two places are apart
-  pub place-between : (lo hi : ℕ) → lo ≤ hi → (rs : List A) → place key hi rs ≡ place key lo rs + length (keep key (λ x. leb lo x && ltb x hi) rs)
-  unfolding place keep
-  place-between lo hi h [] = refl
-  place-between lo hi h (r ∷ rs) =
-      let more = place-between lo hi h rs in
-      split-on (key r) lo
-      (λ l. rw (lt-ltb (key r) hi (omega arith), lt-ltb (key r) lo l, lt-leb lo (key r) l) (omega arith))
-      (λ l. split-on (key r) hi
-      (λ g. rw (lt-ltb (key r) hi g, le-ltb (key r) lo l, le-leb lo (key r) l) (omega arith))
-      (λ g. rw (le-ltb (key r) hi g, le-ltb (key r) lo l, le-leb lo (key r) l) (omega arith)))

@@ -13,11 +13,7 @@ use Rattle.rules.proofs.Shared.Rests.{here}
 use Rattle.rules.proofs.OnWords.ByteLaws.{byte-count, number-back}
 use Rattle.rules.proofs.OnBook.FrameLaws.{Sensible, Framed}
 use Rattle.requests.specs.Laid.{joined, laid}
-
--- each of them has it
-abbrev pub Each : {A : Type 0} → (A → Type 0) → List A → Type 0
-Each P [] = Unit {0}
-Each P (r ∷ rs) = P r × Each P rs
+use Rattle.requests.proofs.OnEntries.EachLaws.{Each}
 
 abbrev pub Long : ℕ → List ℕ → Type 0
 Long k r = length r ≡ k

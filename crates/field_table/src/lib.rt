@@ -19,7 +19,7 @@ use number::Guess;
 use number::Read;
 use sized::Found;
 
-mod allowed;
+pub mod allowed;
 pub mod sized;
 
 // The bytes of a field number, the most entries and the version byte of version 1.

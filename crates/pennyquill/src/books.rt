@@ -27,7 +27,7 @@ fn bad_record(place: usize) -> PqAnswer
     }
 }
 
-fn start_crossed(started: Started) -> PqAnswer
+pub fn start_crossed(started: Started) -> PqAnswer
     ensures { λ r. ⌜ r ≡ crossed (startedAs started) ⌝ }
 {
     match started {
@@ -62,7 +62,7 @@ fn place_crossed(appended: Appended) -> PqAnswer
     }
 }
 
-fn no_record(n: u8, place: u32) -> PqRecord
+pub fn no_record(n: u8, place: u32) -> PqRecord
     ensures { λ r. ⌜ r ≡ recordCrossed (RefusedAt n place) ⌝ }
 {
     PqRecord {

@@ -4,6 +4,7 @@ mod books;
 mod crossing;
 mod dates;
 mod days;
+mod tables;
 mod texts;
 
 // Refusal 0: value is the answer, a date's number, a length, a count or a place. At 11 value is the bad record's place, and at every
@@ -21,11 +22,20 @@ pub struct PqNumber {
     pub value: i32,
 }
 
-// A record of a book. Its field is 0 today.
+// A record of a book, whose field is 0 today; or an entry of a field table, whose value is 0.
 #[repr(C)]
 pub struct PqRecord {
     pub refusal: u32,
     pub kind: u32,
     pub value: u32,
     pub field: u32,
+}
+
+// A number looked up in a field table: the kind that was used, the date, and 1 where it was guessed. At a refusal the others are 0.
+#[repr(C)]
+pub struct PqLookup {
+    pub refusal: u32,
+    pub kind: u32,
+    pub value: u32,
+    pub guessed: u32,
 }

@@ -3,3 +3,4 @@ pub mod Orders
 pub mod Finds
 pub mod Changes
 pub mod Calls
+pub mod Determined

@@ -4,3 +4,4 @@ pub mod HeldLaws
 pub mod BufferLaws
 pub mod AfterLaws
 pub mod LookupLaws
+pub mod RoomLaws

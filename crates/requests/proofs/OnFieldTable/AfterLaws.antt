@@ -32,7 +32,7 @@ module _ (table : TableFormat) (sensible : Sensible (tableFrame table)) where
   key = keyIn w
 
   -- each entry of a table has an entry's bytes
-  each-long : (s : List ℕ) (rs : List (List ℕ)) → Holds table s rs → Each (Long (entrySize table)) rs
+  pub each-long : (s : List ℕ) (rs : List (List ℕ)) → Holds table s rs → Each (Long (entrySize table)) rs
   each-long s rs h =
       let f = h .framed .fits in
       rw (h .framed .cut) at (pieces-long (length rs) (entrySize table) (drop headSize s) (rw length-drop (omega arith)))

@@ -3,19 +3,20 @@
  * Kinds, by their codes:      1 R raw   2 D plain   3 H hourly   4 U uniform   5 E EU5   6 V Victoria 3
  * A date is one number:       (uint32_t)(uint16_t)year << 16 | month << 12 | day << 7 | hour << 2
  * Any numbers can be handed in. A kind outside 1 to 6, a kind that lacks the operation, fields or a date that are not of
- * the kind: each is refusal 4.
+ * the kind: each is refusal 4, and 14 in the calls of tables.
  *
  * Every answer has a refusal, 0 where there is none:
- *    1 text over 16 bytes            5 sum outside 32 bits            10 book: its version
- *    2 text not of that kind         6 sum outside every date         11 book: a bad record; value is the first one's place
- *    3 number not a date,            7 buffer shorter than the text   12 book: no room
- *      or guess refused              9 book: its length               13 book: no record at that place
- *    4 not of that kind
+ *    1 text over 16 bytes            6 sum outside every date         12 book or new table: no room
+ *    2 text not of that kind         7 buffer shorter than the text   13 book or table: nothing at that place
+ *    3 number not a date,            9 book or table: its length      14 table: an entry or a call out of order
+ *      or guess refused             10 book or table: its version        or not allowed
+ *    4 not of that kind             11 book: a bad record; value is   15 table: full, or no room for a new entry
+ *    5 sum outside 32 bits             the first one's place          16 table: no such field to remove
  * At 11 value is the place; at every other refusal all other members are 0. A refusal leaves every byte as it was.
  *
- * A text, a buffer or a book is a pointer and the number of bytes there. No byte beyond them is touched; where there are
- * none, any pointer will do. It need not be aligned, and no text ends in a byte 0. No function keeps a pointer, allocates
- * or has a state of its own, so that any number of threads may call them.
+ * A text, a buffer, a book or a table is a pointer and the number of bytes there. No byte beyond them is touched; where
+ * there are none, any pointer will do. It need not be aligned, and no text ends in a byte 0. No function keeps a pointer,
+ * allocates or has a state of its own, so that any number of threads may call them.
  */
 #ifndef PENNYQUILL_H
 #define PENNYQUILL_H
@@ -40,9 +41,16 @@ typedef struct {
 typedef struct {
     uint32_t refusal;
     uint32_t kind;
-    uint32_t value; /* the date; at 11 the place */
-    uint32_t field; /* 0 today */
+    uint32_t value; /* of a book: the date; at 11 the place. Of a table: 0 */
+    uint32_t field; /* of a book: 0 today. Of a table: the field's number */
 } pq_record;
+
+typedef struct {
+    uint32_t refusal;
+    uint32_t kind;    /* the declared one, or the game's where the field is not declared */
+    uint32_t value;   /* the date */
+    uint32_t guessed; /* 0: declared, decoded in full; 1: not declared, guessed */
+} pq_lookup;
 
 /* A date from a text; from a number that is declared as a date; from any number, by the narrow guess; from its fields, of
    which D, U and E ignore the hour. The value is the date. */
@@ -75,6 +83,44 @@ pq_answer pq_book_append(uint8_t *book, size_t len, uint32_t kind, uint32_t date
 
 /* The record at a place, from 0. */
 pq_record pq_book_record(const uint8_t *book, size_t len, size_t place);
+
+/* A table of declared fields at the front of a buffer: which fields of a save are dates, and of which kind. It has at
+   most 2,048 entries, in ascending order: a field's number, 1 to 65,535, and its kind, 1, 2, 3, 5 or 6 (U reads no
+   numbers). A game kind is one that has a guess: 2, 3, 5 or 6. Any other field or kind in a call is 14, never 4 and never
+   cut: after 9, 10 and 14 for the table itself, before 15, 16 and 3.
+
+   One rule for both users: a declared field's number is decoded in full by the field's kind, so that the chronicler sees
+   odd dates too; any other number is only guessed at by the game kind, so that the converter takes no plain number for a
+   date. Neither takes the other's answer: where one refuses, that is 3, and the other is not asked. */
+
+/* An empty table in the first five bytes, refused by 12 alone; the check of a table. The value is 0; the number of
+   entries. */
+pq_answer pq_table_new(uint8_t *table, size_t len);
+pq_answer pq_table_check(const uint8_t *table, size_t len);
+
+/* Declares a field: one that is there gets the new kind, a new one takes the next three bytes. Removes a field: the later
+   entries close up, the three bytes freed become 0, and that room is used again. No byte after these is touched. The value
+   is the number of entries afterwards. */
+pq_answer pq_table_declare(uint8_t *table, size_t len, uint32_t field, uint32_t kind);
+pq_answer pq_table_remove(uint8_t *table, size_t len, uint32_t field);
+
+/* The date of a number that stands in a field, and whether it was guessed. A game kind that is none is 14 even where the
+   field is declared. */
+pq_lookup pq_table_lookup(const uint8_t *table, size_t len, uint32_t field, uint32_t game_kind, int32_t number);
+
+/* The entry at a place, from 0. */
+pq_record pq_table_entry(const uint8_t *table, size_t len, size_t place);
+
+/* Many lookups over one check of the table; pq_table_lookup checks it each time. Question i is fields[i] and numbers[i],
+   its answer the four numbers from out[4 * i] on: the members of a pq_lookup in their order, so that an array of n of them
+   will do, as 4 * n numbers. These lengths count numbers, not bytes, and need not agree: as many questions are answered as
+   there are fields, numbers and whole fours of out, at most 4,294,967,295. The value is how many, and out stays as it was
+   from 4 * value on. 9, 10 and 14 for the table and 14 for the game kind refuse the whole call, and nothing is written; a
+   field that is none (14) and a number that is no date (3) stand in their own answers. The buffers must not overlap, and
+   fields, numbers and out are aligned as C aligns them. */
+pq_answer pq_table_lookup_all(const uint8_t *table, size_t len, uint32_t game_kind, const uint32_t *fields,
+                              size_t fields_len, const int32_t *numbers, size_t numbers_len, uint32_t *out,
+                              size_t out_len);
 
 #ifdef __cplusplus
 }

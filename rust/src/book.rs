@@ -24,7 +24,7 @@ use crate::{Date, DateHour, Eu5Date, PdsDate, RawDate, UniformDate, Vic3Date};
 /// The bytes of a book of 4,096 records, which is the longest.
 pub const ROOM: usize = 20_485;
 
-/// A date of any kind, as a book has it.
+/// A date of any kind, as a book has it, or as a [lookup](crate::field_table::lookup) gives it.
 #[derive(Clone, Copy, Debug, PartialEq, Eq, Hash)]
 pub enum Record {
     /// Kind R.
@@ -42,7 +42,7 @@ pub enum Record {
 }
 
 impl Record {
-    fn from_bits(kind: u32, bits: u32) -> Result<Record, Refusal> {
+    pub(crate) fn from_bits(kind: u32, bits: u32) -> Result<Record, Refusal> {
         match kind {
             RawDate::KIND => RawDate::from_bits(bits).map(Record::R),
             Date::KIND => Date::from_bits(bits).map(Record::D),
@@ -50,7 +50,7 @@ impl Record {
             UniformDate::KIND => UniformDate::from_bits(bits).map(Record::U),
             Eu5Date::KIND => Eu5Date::from_bits(bits).map(Record::E),
             Vic3Date::KIND => Vic3Date::from_bits(bits).map(Record::V),
-            _ => unreachable!("a book has no kind {kind}"),
+            _ => unreachable!("the boundary gives no kind {kind}"),
         }
     }
 }

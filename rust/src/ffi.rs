@@ -2,10 +2,11 @@
 //!
 //! A kind is its code in the book: R 1, D 2, H 3, U 4, E 5, V 6. A date is its year's sixteen bits above its packed
 //! word. Refusal 0 means that the value holds the answer; at 11 the value is a place; at every other refusal the
-//! other members are 0. Every function answers whatever it is handed, given that its pointers are valid.
+//! other members are 0. Every function answers whatever it is handed, given that its pointers are valid: each aligned
+//! for its type, good for as many bytes or numbers as the length after it says, and no two of them for the same ones.
 #![allow(missing_docs)] // the header has them
 
-/// A date, a length, a number of records or a place.
+/// A date, a length, a place, or a number of records, entries or lookups.
 #[repr(C)]
 #[derive(Clone, Copy, Debug, PartialEq, Eq)]
 pub struct Answer {
@@ -21,7 +22,8 @@ pub struct Number {
     pub value: i32,
 }
 
-/// A record of a book. `value` is its date, or at refusal 11 the place of the first bad record; `field` is 0 today.
+/// A record of a book, or an entry of a table. Of a record, `value` is its date, or at refusal 11 the place of the
+/// first bad one, and `field` is 0 today. Of an entry, `value` is 0 and `field` the field's number.
 #[repr(C)]
 #[derive(Clone, Copy, Debug, PartialEq, Eq)]
 pub struct Record {
@@ -29,6 +31,16 @@ pub struct Record {
     pub kind: u32,
     pub value: u32,
     pub field: u32,
+}
+
+/// A date that was looked up in a table. `value` is the date; `guessed` is 0 for a declared field, 1 for any other.
+#[repr(C)]
+#[derive(Clone, Copy, Debug, PartialEq, Eq)]
+pub struct Lookup {
+    pub refusal: u32,
+    pub kind: u32,
+    pub value: u32,
+    pub guessed: u32,
 }
 
 // Those that take no pointer can be called with any arguments.
@@ -51,4 +63,27 @@ unsafe extern "C" {
     pub fn pq_book_check(b: *const u8, n: usize) -> Answer;
     pub fn pq_book_append(b: *mut u8, n: usize, kind: u32, date: u32) -> Answer;
     pub fn pq_book_record(b: *const u8, n: usize, place: usize) -> Record;
+    pub fn pq_table_new(b: *mut u8, n: usize) -> Answer;
+    pub fn pq_table_check(b: *const u8, n: usize) -> Answer;
+    pub fn pq_table_declare(b: *mut u8, n: usize, field: u32, kind: u32) -> Answer;
+    pub fn pq_table_remove(b: *mut u8, n: usize, field: u32) -> Answer;
+    pub fn pq_table_lookup(
+        b: *const u8,
+        n: usize,
+        field: u32,
+        game_kind: u32,
+        number: i32,
+    ) -> Lookup;
+    pub fn pq_table_entry(b: *const u8, n: usize, place: usize) -> Record;
+    pub fn pq_table_lookup_all(
+        b: *const u8,
+        n: usize,
+        game_kind: u32,
+        fields: *const u32,
+        fields_len: usize,
+        numbers: *const i32,
+        numbers_len: usize,
+        out: *mut u32,
+        out_len: usize,
+    ) -> Answer;
 }

@@ -30,26 +30,33 @@ pub enum Refusal {
     ShortBuffer,
     /// 8: a line of `datelist` that is unreadable. No function of this crate reads one.
     UnreadableLine,
-    /// 9: bytes that are no book's: under five, or a length that cannot be.
+    /// 9: bytes that are no book's, or no table's: under five, or a length that cannot be.
     NotBook,
-    /// 10: a book of another version than 1.
+    /// 10: a book or a table of another version than 1.
     WrongVersion,
     /// 11: a record that no date of its kind has, with the place of the first one, from 0.
     BadRecord(usize),
-    /// 12: no room for a new book or for one more record.
+    /// 12: no room for a new book or table, or for one more record.
     NoRoom,
-    /// 13: no record at that place.
+    /// 13: no record, or no entry, at that place.
     NoRecord,
+    /// 14: a table's entries out of order, or a field or a kind that no entry has, in the table or in the call.
+    BadEntry,
+    /// 15: a table with 2,048 entries already, or with no room for one more.
+    TableFull,
+    /// 16: a field to be removed that the table does not have.
+    NotThere,
 }
 
 impl Refusal {
-    /// The number of the refusal, 1 to 13.
+    /// The number of the refusal, 1 to 16.
     ///
     /// ```
     /// use pennyquill::{DateHour, Refusal};
     /// let refusal = DateHour::from_ymdh_opt(1936, 1, 1, 0).unwrap_err();
     /// assert_eq!(refusal.number(), 4);
     /// assert_eq!(Refusal::BadRecord(7).number(), 11);
+    /// assert_eq!(Refusal::NotThere.number(), 16);
     /// ```
     pub fn number(self) -> u32 {
         match self {
@@ -66,6 +73,9 @@ impl Refusal {
             Refusal::BadRecord(_) => 11,
             Refusal::NoRoom => 12,
             Refusal::NoRecord => 13,
+            Refusal::BadEntry => 14,
+            Refusal::TableFull => 15,
+            Refusal::NotThere => 16,
         }
     }
 
@@ -85,6 +95,9 @@ impl Refusal {
             11 => Refusal::BadRecord(value as usize),
             12 => Refusal::NoRoom,
             13 => Refusal::NoRecord,
+            14 => Refusal::BadEntry,
+            15 => Refusal::TableFull,
+            16 => Refusal::NotThere,
             _ => unreachable!("the boundary gives no refusal {number}"),
         }
     }
@@ -101,11 +114,18 @@ impl Refusal {
             Refusal::NoSuchDay => "no year of 16 bits has that day",
             Refusal::ShortBuffer => "the buffer is shorter than the text",
             Refusal::UnreadableLine => "the line is unreadable",
-            Refusal::NotBook => "the bytes are not those of a book: too few, or a wrong length",
-            Refusal::WrongVersion => "the book's version is not 1",
+            Refusal::NotBook => {
+                "the bytes are not those of a book or a table: too few, or a wrong length"
+            }
+            Refusal::WrongVersion => "the version of the book or the table is not 1",
             Refusal::BadRecord(_) => "no date of its kind has the record",
             Refusal::NoRoom => "the buffer has no room, or the book has 4,096 records already",
-            Refusal::NoRecord => "the book has no record at that place",
+            Refusal::NoRecord => "the book or the table has nothing at that place",
+            Refusal::BadEntry => {
+                "the table's entries are out of order, or a field or a kind is not allowed"
+            }
+            Refusal::TableFull => "the table has 2,048 entries already, or no room for one more",
+            Refusal::NotThere => "the table has no such field to remove",
         }
     }
 }

@@ -14,6 +14,9 @@ _Static_assert(offsetof(pq_number, refusal) == 0 && offsetof(pq_number, value) =
 _Static_assert(sizeof(pq_record) == 16, "four numbers of 32 bits");
 _Static_assert(offsetof(pq_record, refusal) == 0 && offsetof(pq_record, kind) == 4, "the refusal, then the kind");
 _Static_assert(offsetof(pq_record, value) == 8 && offsetof(pq_record, field) == 12, "then the value and the field");
+_Static_assert(sizeof(pq_lookup) == 16, "four numbers of 32 bits, as pq_table_lookup_all writes them");
+_Static_assert(offsetof(pq_lookup, refusal) == 0 && offsetof(pq_lookup, kind) == 4, "the refusal, then the kind");
+_Static_assert(offsetof(pq_lookup, value) == 8 && offsetof(pq_lookup, guessed) == 12, "then the value and the guess");
 
 enum { R = 1, D, H, U, E, V };
 
@@ -95,11 +98,93 @@ static void books(void) {
     tell("pq_book_record, a bad one", bad.refusal == 11 && bad.kind == 0 && bad.value == 1 && bad.field == 0);
 }
 
+static void enters(const char *what, pq_record got, uint32_t refusal, uint32_t kind, uint32_t field) {
+    tell(what, got.refusal == refusal && got.kind == kind && got.value == 0 && got.field == field);
+}
+
+static void looks(const char *what, pq_lookup got, uint32_t refusal, uint32_t kind, uint32_t value, uint32_t guessed) {
+    tell(what, got.refusal == refusal && got.kind == kind && got.value == value && got.guessed == guessed);
+}
+
+/* The request's own bytes: 500 as D, then 3 as V declared and removed; what stands after them stays. */
+static void requested(void) {
+    uint8_t table[12];
+    memset(table, '#', sizeof table);
+    gives("pq_table_new", pq_table_new(table, sizeof table), 0, 0);
+    gives("pq_table_declare", pq_table_declare(table, sizeof table, 500, D), 0, 1);
+    const uint8_t declared[] = {0, 0, 0, 4, 1, 0x01, 0xF4, 2, '#', '#', '#', '#'};
+    tell("the table's bytes", memcmp(table, declared, sizeof table) == 0);
+    gives("pq_table_declare, before it", pq_table_declare(table, sizeof table, 3, V), 0, 2);
+    gives("pq_table_remove", pq_table_remove(table, sizeof table, 3), 0, 1);
+    const uint8_t removed[] = {0, 0, 0, 4, 1, 0x01, 0xF4, 2, 0, 0, 0, '#'};
+    tell("the table's bytes, closed up", memcmp(table, removed, sizeof table) == 0);
+    gives("pq_table_remove, not there", pq_table_remove(table, sizeof table, 3), 16, 0);
+    gives("pq_table_new, no room", pq_table_new(table, 4), 12, 0);
+}
+
+/* 3 is declared as V, 258 as R, 500 as D; two bytes are left. */
+static const uint8_t three[] = {0, 0, 0, 10, 1, 0x00, 0x03, 6, 0x01, 0x02, 1, 0x01, 0xF4, 2, '#', '#'};
+
+static void entries(void) {
+    gives("pq_table_check", pq_table_check(three, sizeof three), 0, 3);
+    gives("pq_table_check, cut", pq_table_check(three, 13), 9, 0);
+    enters("pq_table_entry", pq_table_entry(three, sizeof three, 2), 0, D, 500);
+    enters("pq_table_entry, none", pq_table_entry(three, sizeof three, 3), 13, 0, 0);
+    uint8_t table[sizeof three];
+    memcpy(table, three, sizeof table);
+    gives("pq_table_declare, no room", pq_table_declare(table, sizeof table, 2, H), 15, 0);
+    gives("pq_table_declare, a kind that reads no numbers", pq_table_declare(table, sizeof table, 2, U), 14, 0);
+    gives("pq_table_declare, the new kind", pq_table_declare(table, sizeof table, 258, H), 0, 3);
+    tell("the new kind", table[10] == H);
+    table[10] = U;
+    gives("pq_table_check, a bad entry", pq_table_check(table, sizeof table), 14, 0);
+}
+
+/* Each number is asked about in a declared field and in one that is not. E guesses at even hours, V has none of 2. */
+static void lookups(void) {
+    size_t length = sizeof three;
+    looks("pq_table_lookup", pq_table_lookup(three, length, 500, E, 56456976), 0, D, date(1444, 11, 11, 0), 0);
+    looks("pq_table_lookup, guessed", pq_table_lookup(three, length, 501, E, 56456978), 0, E, date(1444, 11, 11, 2), 1);
+    looks("pq_table_lookup, no guess", pq_table_lookup(three, length, 3, E, 56456978), 3, 0, 0, 0);
+    looks("pq_table_lookup, in full", pq_table_lookup(three, length, 258, D, 1444), 0, R, date(-5000, 3, 2, 4), 0);
+    looks("pq_table_lookup, not in full", pq_table_lookup(three, length, 259, D, 1444), 3, 0, 0, 0);
+    looks("pq_table_lookup, a game kind without a guess", pq_table_lookup(three, length, 500, R, 56456976), 14, 0, 0, 0);
+}
+
+/* The whole answer to three of the lookups above, into an array of structs, whose last one no question reaches. */
+static void lookups_at_once(void) {
+    const uint32_t fields[] = {500, 501, 3, 258};
+    const int32_t numbers[] = {56456976, 56456978, 56456978, 1444};
+    const pq_lookup none = {7, 7, 7, 7};
+    pq_lookup out[] = {none, none, none, none};
+    const char *what = "pq_table_lookup_all";
+    size_t length = sizeof three;
+    gives(what, pq_table_lookup_all(three, length, E, fields, 4, numbers, 3, (uint32_t *)out, 16), 0, 3);
+    looks(what, out[0], 0, D, date(1444, 11, 11, 0), 0);
+    looks(what, out[1], 0, E, date(1444, 11, 11, 2), 1);
+    looks(what, out[2], 3, 0, 0, 0);
+    looks("pq_table_lookup_all, what is not asked", out[3], 7, 7, 7, 7);
+    what = "pq_table_lookup_all, the shortest decides";
+    gives(what, pq_table_lookup_all(three, length, E, fields, 2, numbers, 4, (uint32_t *)out, 16), 0, 2);
+    gives(what, pq_table_lookup_all(three, length, E, fields, 4, numbers, 3, (uint32_t *)out, 7), 0, 1);
+    looks("pq_table_lookup_all, what is not asked", out[3], 7, 7, 7, 7);
+    what = "pq_table_lookup_all, a game kind without a guess";
+    gives(what, pq_table_lookup_all(three, length, R, fields, 4, numbers, 3, (uint32_t *)out, 16), 14, 0);
+}
+
+static void tables(void) {
+    requested();
+    entries();
+    lookups();
+    lookups_at_once();
+}
+
 int main(void) {
     dates();
     numbers();
     texts();
     books();
+    tables();
     printf("%d answers right, %d wrong\n", right, wrong);
     return wrong > 0;
 }

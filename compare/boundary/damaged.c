@@ -311,10 +311,13 @@ static void entry(const checked *table, const uint8_t *copy, size_t place) {
     refused_first("an entry", table, 1, found.refusal, (uint32_t)place);
     if (table->count.refusal != 0)
         return;
-    if ((found.refusal == 13) != (place >= table->count.value) || found.value != 0)
+    if ((found.refusal == 13) != (place >= table->count.value)) {
         fault("an entry's place", found.kind, (uint32_t)place);
-    if (found.refusal == 0 && declared_as(copy, table->count.value, found.field) != found.kind)
-        fault("an entry's parts", found.kind, found.field);
+    } else if (found.refusal == 0) {
+        const uint8_t *bytes = copy + HEAD + ENTRY * place;
+        if (found.kind != bytes[2] || found.value != 0 || found.field != field_of(bytes))
+            fault("an entry's parts", found.kind, found.field);
+    }
 }
 
 /* A declared field is answered as by the full decoder, any other as by the guess. */
@@ -472,7 +475,7 @@ static void on_table(const uint8_t *bytes, size_t length) {
     free(copy);
 }
 
-/* A table of three fields: each byte changed, cut at each length; then length and version together, for which comes first. */
+/* A table of three fields: each byte changed, cut at each length; then length and version together, for their order. */
 static void small_tables(void) {
     static const uint8_t whole[] = {0, 0, 0, 10, 1, 0x00, 0x03, 6, 0x01, 0xF4, 2, 0xFF, 0xFF, 5, 0xA5, 0xA5, 0xA5, 0xA5};
     for (size_t length = 0; length <= sizeof whole; length++)

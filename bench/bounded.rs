@@ -48,6 +48,11 @@ pub extern "C" fn read_text(kind: u32, text: *const u8, len: usize) -> Answer {
 
 #[inline(never)]
 pub extern "C" fn read_number(kind: u32, number: i32) -> Answer {
+    decoded(kind, number)
+}
+
+#[inline(always)]
+pub fn decoded(kind: u32, number: i32) -> Answer {
     by_kind!(kind, 3,
         1 RawDate.hour: RawDate::from_binary(number),
         2 Date.stored_hour: Date::from_binary(number),
@@ -58,6 +63,11 @@ pub extern "C" fn read_number(kind: u32, number: i32) -> Answer {
 
 #[inline(never)]
 pub extern "C" fn guess_number(kind: u32, number: i32) -> Answer {
+    guessed(kind, number)
+}
+
+#[inline(always)]
+pub fn guessed(kind: u32, number: i32) -> Answer {
     by_kind!(kind, 3,
         2 Date.stored_hour: Date::from_binary_heuristic(number),
         3 DateHour.hour: DateHour::from_binary_heuristic(number),

@@ -1,7 +1,9 @@
 //! What both sides are asked about: the same random dates on every run.
 
+use crate::plain_table::{KINDS, Kind};
 use crate::random::Random;
 use jomini::common::Date;
+use std::collections::BTreeSet;
 
 /// So many inputs stay in the nearest cache.
 const COUNT: usize = 512;
@@ -76,4 +78,46 @@ pub fn full_book() -> Vec<u8> {
         book.extend((word as u16).to_be_bytes());
     }
     book
+}
+
+/// 2,048 fields in ascending order, each with a kind.
+pub fn declared() -> Vec<(u16, Kind)> {
+    let mut random = Random::new(3);
+    let mut fields = BTreeSet::new();
+    while fields.len() < 2048 {
+        fields.insert(random.between(1, 65_535) as u16);
+    }
+    let with_kind = |field| (field, random.pick(&KINDS));
+    fields.into_iter().map(with_kind).collect()
+}
+
+/// The table of these fields.
+pub fn table(declared: &[(u16, Kind)]) -> Vec<u8> {
+    let length = 1 + 3 * declared.len() as u32;
+    let mut table = length.to_be_bytes().to_vec();
+    table.push(1);
+    for &(field, kind) in declared {
+        table.extend(field.to_be_bytes());
+        table.push(kind as u8);
+    }
+    table
+}
+
+/// Fields with numbers, in random order. Half of the fields are declared, and have dates; of the others
+/// half have dates and half have plain numbers.
+pub fn questions(declared: &[(u16, Kind)]) -> Vec<(u32, i32)> {
+    let mut random = Random::new(4);
+    let is_declared = |field: u16| declared.iter().any(|&(one, _)| one == field);
+    let question = |date: i32| {
+        if random.chance(50) {
+            return (random.pick(declared).0.into(), date);
+        }
+        let mut field = random.between(1, 65_535) as u16;
+        while is_declared(field) {
+            field = random.between(1, 65_535) as u16;
+        }
+        let plain = random.between(0, 5000) as i32;
+        (field.into(), if random.chance(50) { date } else { plain })
+    };
+    numbers(0).into_iter().map(question).collect()
 }

@@ -3,6 +3,7 @@
 mod bounded;
 mod inputs;
 mod measure;
+mod plain_table;
 #[allow(dead_code)] // the generator uses more of it
 #[path = "../compare/generator/random.rs"]
 mod random;

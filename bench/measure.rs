@@ -18,6 +18,18 @@ pub struct Times {
     pub port: f64,
 }
 
+impl Times {
+    /// Those of one part of a call that does so many.
+    pub fn of_each(self, parts: usize) -> Times {
+        let of_one = |time: f64| time / parts as f64;
+        Times {
+            original: of_one(self.original),
+            bounded: of_one(self.bounded),
+            port: of_one(self.port),
+        }
+    }
+}
+
 /// Asks each way about every input, again and again, in rounds that take turns.
 pub fn compare<I, A, B, C>(
     inputs: &[I],

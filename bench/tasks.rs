@@ -1,11 +1,16 @@
 //! What is timed.
 
 use crate::bounded;
-use crate::inputs::{Day, all_days, days, dotted, full_book, numbers, steps, texts};
+use crate::inputs::{
+    Day, all_days, days, declared, dotted, full_book, numbers, questions, steps, table, texts,
+};
 use crate::measure::{Times, compare};
+use crate::plain_table::{self, Kind};
 use eu5save::Eu5Date;
 use jomini::common::{Date, DateHour, PdsDate, PdsDateFormatter, RawDate, UniformDate};
-use pennyquill::ffi::{self, Answer, Number};
+use pennyquill::ffi::{self, Answer, Lookup, Number};
+use std::cell::RefCell;
+use std::hint::black_box;
 use vic3save::Vic3Date;
 
 const R: u32 = 1;
@@ -24,6 +29,8 @@ pub fn all(show: Show) {
     writing(show);
     counting(show);
     check_book(show);
+    look_up_each(show);
+    look_up_all(show);
 }
 
 fn reading(show: Show) {
@@ -250,5 +257,89 @@ fn check_book(show: Show) {
     show(
         "check a book of 4,096 records *",
         compare(&book, second, second, port),
+    );
+}
+
+type Question = (u32, i32);
+
+/// The original has no field table: here a plain search and the original's readers stand for it.
+fn look_up_each(show: Show) {
+    let declared = declared();
+    let table = table(&declared);
+    let fields = &declared;
+    let plain = |&(field, number): &Question| {
+        // The compiler knows the game's kind, as a program for one game would have it.
+        plain_table::lookup(fields, field, Kind::D, number)
+    };
+    let bounded = |&(field, number): &Question| {
+        plain_table::lookup_one(fields.as_ptr(), fields.len(), field, D, number)
+    };
+    let port = |&(field, number): &Question| {
+        // SAFETY: the pointer and the length are those of a slice.
+        unsafe { ffi::pq_table_lookup(table.as_ptr(), table.len(), field, D, number) }
+    };
+    show(
+        "look up among 2,048 fields, one by one, beside a plain search †",
+        compare(&questions(&declared), plain, bounded, port),
+    );
+}
+
+/// The same questions in one call, into room that is lent.
+fn look_up_all(show: Show) {
+    let declared = declared();
+    let table = table(&declared);
+    let (fields, numbers): (Vec<u32>, Vec<i32>) = questions(&declared).into_iter().unzip();
+    let count = fields.len();
+    let dates = RefCell::new(Vec::from_iter(fields.iter().map(|_| None)));
+    let plain = |_: &()| {
+        let mut out = dates.borrow_mut();
+        for ((out, &field), &number) in out.iter_mut().zip(&fields).zip(&numbers) {
+            *out = plain_table::lookup(&declared, field, Kind::D, number);
+        }
+        black_box(&*out);
+    };
+    let empty = Lookup {
+        refusal: 0,
+        kind: 0,
+        value: 0,
+        guessed: 0,
+    };
+    let answers = RefCell::new(vec![empty; count]);
+    let bounded = |_: &()| {
+        let mut out = answers.borrow_mut();
+        plain_table::lookup_all(
+            declared.as_ptr(),
+            declared.len(),
+            D,
+            fields.as_ptr(),
+            numbers.as_ptr(),
+            out.as_mut_ptr(),
+            count,
+        );
+    };
+    let port = |_: &()| {
+        let mut out = answers.borrow_mut();
+        // SAFETY: the pointers and the lengths are those of slices, the last one's structs being four numbers each.
+        unsafe {
+            ffi::pq_table_lookup_all(
+                table.as_ptr(),
+                table.len(),
+                D,
+                fields.as_ptr(),
+                count,
+                numbers.as_ptr(),
+                count,
+                out.as_mut_ptr().cast(),
+                4 * count,
+            )
+        }
+    };
+    bounded(&());
+    let bounded_answers = answers.borrow().clone();
+    port(&());
+    assert_eq!(*answers.borrow(), bounded_answers);
+    show(
+        "look up among 2,048 fields, as one of 512 in a call, beside a plain search †",
+        compare(&[()], plain, bounded, port).of_each(count),
     );
 }

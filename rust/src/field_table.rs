@@ -7,8 +7,8 @@
 //! A number that stands in a declared field is decoded in full, by the field's kind. A number in any other field is only
 //! guessed at, by the kind of the game. Neither takes the other's answer.
 //!
-//! [`FieldTable`] holds a lent buffer, and changes the table in it. Who only reads needs none: [`check`], [`entry`],
-//! [`lookup`] and [`lookup_all`] take any bytes, and whoever else has them may read them too.
+//! [`FieldTable`] holds a lent buffer and changes the table in it. Who only reads needs none: [`check`], [`entry`],
+//! [`lookup`] and [`lookup_all`] take a shared slice.
 //!
 //! The converter wants no plain number ever taken for a date:
 //!

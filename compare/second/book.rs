@@ -61,7 +61,7 @@ impl Record {
 }
 
 /// "kind (R 1, D 2, H 3, U 4, E 5, V 6)".
-fn number_of(kind: Kind) -> u8 {
+pub fn number_of(kind: Kind) -> u8 {
     match kind {
         Kind::R => 1,
         Kind::D => 2,

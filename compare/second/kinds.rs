@@ -74,6 +74,10 @@ impl Fields {
         };
         (word % 4 == 0).then_some(fields)
     }
+
+    pub fn word(self) -> u16 {
+        self.month * 4096 + self.day * 128 + self.hour * 4
+    }
 }
 
 /// `year month day hour`.

@@ -4,3 +4,4 @@ pub mod book;
 pub mod exchange;
 pub mod kinds;
 pub mod listing;
+pub mod table;

@@ -1,11 +1,11 @@
-//! A second reading of document 01, for what the original lacks. It shares nothing with the port.
+//! A second reading of document 01 and of requests on it, for what the original lacks. It shares nothing with the port.
 //!
 //!     second exchanges < spellings.txt     the same dates with their exchange texts
 //!     second constants                     the least and the greatest date of each kind
 //!     second example                       the input of the page's example, after trying all that
 //!                                          the page or the original says of the same
 //!     second listing < input               what `datelist` writes for the input
-//!     second book < script                 the answers of book operations
+//!     second book < script                 the answers of book operations and table operations
 
 mod agreement;
 mod book;
@@ -14,6 +14,8 @@ mod kinds;
 mod listing;
 mod page;
 mod script;
+mod table;
+mod table_script;
 
 use std::io::{self, Read, Write};
 

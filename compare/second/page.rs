@@ -1,8 +1,8 @@
-//! What document 01 itself shows, held against this reading.
+//! What document 01 itself shows, and request #101, held against this reading.
 
 use crate::book::{self, Record};
 use crate::kinds::{Fields, Kind};
-use crate::{exchange, listing};
+use crate::{exchange, listing, table};
 
 const EXAMPLE_INPUT: &str = "\
 D t 1444.11.11
@@ -32,6 +32,7 @@ pub fn example() -> &'static str {
     assert_eq!(String::from_utf8_lossy(&output), EXAMPLE_OUTPUT);
     try_years_before_0();
     try_small_book();
+    try_small_table();
     EXAMPLE_INPUT
 }
 
@@ -60,4 +61,19 @@ fn try_small_book() {
     let bytes = [0x00, 0x00, 0x00, 0x06, 0x01, 0x02, 0x05, 0xA4, 0xB5, 0x80];
     assert_eq!(buffer, bytes);
     assert!(book::record(&buffer, 0).is_ok_and(|recorded| recorded == date));
+}
+
+/// New, then 500 as D: 00 00 00 04 01 01 F4 02. Then 3 as V, and 3 removed: three bytes of 0 after
+/// these, later bytes as they were.
+fn try_small_table() {
+    let mut buffer = [0xFF; 12];
+    assert_eq!(table::new(&mut buffer), Ok(()));
+    assert_eq!(table::declare(&mut buffer, 500, 2), Ok(1));
+    let bytes = [0x00, 0x00, 0x00, 0x04, 0x01, 0x01, 0xF4, 0x02];
+    assert_eq!(buffer[..8], bytes);
+    assert_eq!(buffer[8..], [0xFF; 4]);
+    assert_eq!(table::declare(&mut buffer, 3, 6), Ok(2));
+    assert_eq!(table::remove(&mut buffer, 3), Ok(1));
+    assert_eq!(buffer[..8], bytes);
+    assert_eq!(buffer[8..], [0x00, 0x00, 0x00, 0xFF]);
 }

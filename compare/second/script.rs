@@ -1,7 +1,9 @@
-//! Runs a script of book operations and tells their answers. README.md has the format of both.
+//! Runs a script of book operations and table operations and tells their answers. README.md has the
+//! format of both.
 
 use crate::book::{self, Record, Refusal};
 use crate::kinds::Kind;
+use crate::table_script;
 use std::str::FromStr;
 
 /// The longest buffer that is shown byte for byte.
@@ -41,6 +43,14 @@ fn prepare(buffer: &mut Vec<u8>, words: &[&str]) -> bool {
                 buffer[to + step] = buffer[from + step];
             }
         }
+        ["entries", place, first, count, code] => {
+            table_script::put_entries(
+                &mut buffer[number(place)..],
+                number(first),
+                number(count),
+                number(code),
+            );
+        }
         _ => return false,
     }
     true
@@ -59,11 +69,12 @@ fn operate(buffer: &mut [u8], words: &[&str]) -> Result<String, Refusal> {
             };
             book::append(buffer, record).map(|place| place.to_string())
         }
+        ["table", words @ ..] => table_script::operate(buffer, words).map_err(Refusal::Number),
         _ => panic!("no line of a script: {}", words.join(" ")),
     }
 }
 
-fn number<N: FromStr>(word: &str) -> N {
+pub fn number<N: FromStr>(word: &str) -> N {
     match word.parse() {
         Ok(number) => number,
         Err(_) => panic!("no such number: {word}"),

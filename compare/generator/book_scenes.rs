@@ -1,4 +1,4 @@
-//! book.script: what is tried on books. The second reading answers it.
+//! The part of book.script that is about books, its first. The second reading answers it.
 
 use crate::book_damage;
 use crate::book_script::{GREATEST_LENGTH, HEAD, MOST_RECORDS, RECORD, Script, YEAR, word};

@@ -22,6 +22,10 @@ mod orders;
 mod panics;
 mod random;
 mod spellings;
+mod table_damage;
+mod table_lookups;
+mod table_scenes;
+mod table_script;
 mod text_edges;
 mod texts;
 
@@ -48,6 +52,7 @@ const FILES: [(&str, fn(&mut Answers)); 12] = [
 /// The places after those of the list.
 const LISTINGS_STREAM: u64 = FILES.len() as u64;
 const BOOK_STREAM: u64 = LISTINGS_STREAM + 1;
+const TABLE_STREAM: u64 = BOOK_STREAM + 1;
 
 fn main() {
     let folder = std::env::args_os().nth(1).expect("usage: generate FOLDER");
@@ -61,7 +66,7 @@ fn main() {
     for (name, bytes) in listings::write(&folder.join("listing"), LISTINGS_STREAM) {
         println!("listing/{name}: {bytes} bytes");
     }
-    let script = book_scenes::all(BOOK_STREAM);
+    let script = book_scenes::all(BOOK_STREAM) + &table_scenes::all(TABLE_STREAM);
     fs::write(folder.join("book.script"), &script).expect("the file can be written");
     println!("book.script: {} lines", script.lines().count());
 }

@@ -1,6 +1,8 @@
 // The lines of a script. A reader that does not find its part answers NOWHERE as the place after it, as those of `rows` do, so
 // that a line is read to its end, and tested once.
 use crate::operations::Operation;
+use crate::table_lines;
+use crate::tables::TableOperation;
 use codes::Lettered;
 use kinds::Kind;
 use kinds::Packed;
@@ -20,7 +22,14 @@ pub(crate) enum Line {
         count: usize,
         to: usize,
     },
+    Entries {
+        place: usize,
+        first: usize,
+        count: usize,
+        code: u8,
+    },
     Operation(Operation),
+    Table(TableOperation),
     Unread,
 }
 
@@ -33,6 +42,8 @@ pub(crate) fn read(row: &[u8]) -> Line {
         b'n' => new(row),
         b'r' => record(row),
         b'a' => append(row),
+        b'e' => entries(row),
+        b't' => table_lines::read(row),
         _ => Line::Unread,
     }
 }
@@ -46,7 +57,7 @@ fn copy_or_check(row: &[u8]) -> Line {
 
 // ---- a place is a number of 64 bits
 
-fn place_of(n: u64) -> usize {
+pub(crate) fn place_of(n: u64) -> usize {
     n as usize
 }
 
@@ -90,6 +101,24 @@ fn copy(row: &[u8]) -> Line {
             count: place_of(count.up),
             to: place_of(to.up),
         };
+    }
+    Line::Unread
+}
+
+fn entries(row: &[u8]) -> Line {
+    let place = rows::natural(row, rows::after_word(row, 0, b"entries "));
+    let first = rows::natural(row, rows::after(row, place.next, b' '));
+    let count = rows::natural(row, rows::after(row, first.next, b' '));
+    let code = rows::natural(row, rows::after(row, count.next, b' '));
+    if rows::ends(row, code.next) {
+        if code.up <= 255 {
+            return Line::Entries {
+                place: place_of(place.up),
+                first: place_of(first.up),
+                count: place_of(count.up),
+                code: code.up as u8,
+            };
+        }
     }
     Line::Unread
 }

@@ -1,4 +1,5 @@
-// Runs the script of book operations that stands on standard input: each line is read, done on the one buffer, and told.
+// Runs the script of book operations and table operations that stands on standard input: each line is read, done on the one buffer,
+// and told.
 // `compare/README.md` has the format of the script and of what is told.
 ghost use Prim.Native.Nat.{_≤_};
 ghost use lib.ListN.{length};
@@ -8,6 +9,8 @@ use libc::STDIN_FILENO;
 mod lines;
 mod operations;
 mod setting;
+mod table_lines;
+mod tables;
 mod telling;
 
 fn main() {
@@ -18,8 +21,8 @@ fn main() {
 }
 
 // Room for the script, and for its buffers. Its contract says nothing: an `ensures` on an array of this length runs the checker out of stack.
-fn room() -> [u8; 131072] {
-    [0u8; 131072]
+fn room() -> [u8; 262144] {
+    [0u8; 262144]
 }
 
 // Runs a script in the room that it is lent. Its buffer is the front of that room, at first empty.
@@ -61,9 +64,24 @@ fn step(row: &[u8], room: &mut [u8], size: usize) -> usize
             telling::unread_unless(row, done);
             size
         }
+        Line::Entries {
+            place,
+            first,
+            count,
+            code,
+        } => {
+            let done = setting::entries(&mut room[..size], place, first, count, code);
+            telling::unread_unless(row, done);
+            size
+        }
         Line::Operation(operation) => {
             let told = operations::operate(&mut room[..size], operation);
             telling::tell(row, told, &room[..size]);
+            size
+        }
+        Line::Table(operation) => {
+            let told = tables::operate(&mut room[..size], operation);
+            telling::tell_table(row, told, &room[..size]);
             size
         }
         Line::Unread => {

@@ -1,6 +1,7 @@
 // What is told of the lines of a script. These functions write, which no contract can say; `weighed` is the sum that stands for a long buffer.
 ghost use Prim.Native.Nat.{_<_, _≤_};
 use crate::operations::Told;
+use crate::tables::TableTold;
 use kinds::Kind;
 use kinds::Packed;
 use libc::STDOUT_FILENO;
@@ -53,6 +54,17 @@ pub(crate) fn tell(row: &[u8], told: Told, buffer: &[u8]) {
     line(row);
     print(b" = ");
     answer(told);
+    after_answer(buffer);
+}
+
+pub(crate) fn tell_table(row: &[u8], told: TableTold, buffer: &[u8]) {
+    line(row);
+    print(b" = ");
+    table_answer(told);
+    after_answer(buffer);
+}
+
+fn after_answer(buffer: &[u8]) {
     print(b" [");
     show(buffer);
     print(b"]\n");
@@ -63,15 +75,45 @@ fn answer(told: Told) {
         Told::Done => print(b"done"),
         Told::Number(n) => number(counted(n)),
         Told::Record { kind, date } => record(kind, date),
-        Told::Refused(n) => {
-            print(b"refused ");
-            number(wide(n))
-        }
+        Told::Refused(n) => refused(n),
         Told::BadRecord(place) => {
             print(b"refused 11 ");
             number(counted(place))
         }
     }
+}
+
+fn table_answer(told: TableTold) {
+    match told {
+        TableTold::Done => print(b"done"),
+        TableTold::Number(n) => number(counted(n)),
+        TableTold::Entry { field, kind } => entry(field, kind),
+        TableTold::Declared { kind, date } => {
+            print(b"declared ");
+            record(kind, date)
+        }
+        TableTold::Guessed { kind, date } => {
+            print(b"guessed ");
+            record(kind, date)
+        }
+        TableTold::Refused(n) => refused(n),
+    }
+}
+
+fn refused(n: u8) {
+    print(b"refused ");
+    number(wide(n));
+}
+
+// `FIELD K`.
+fn entry(field: u32, kind: Kind) {
+    number(field_of(field));
+    let letter = [b' ', codes::letter(kind)];
+    print(&letter);
+}
+
+fn field_of(field: u32) -> u64 {
+    field as u64
 }
 
 // `K YEAR WORD`.

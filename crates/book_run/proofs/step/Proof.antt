@@ -14,11 +14,20 @@ slice-aggregate-set c = simp length-take (omega arith)
 slice-aggregate-copy : tie.Need-slice-aggregate-copy
 slice-aggregate-copy c = simp length-take (omega arith)
 
+slice-aggregate-entries : tie.Need-slice-aggregate-entries
+slice-aggregate-entries c = simp length-take (omega arith)
+
 slice-aggregate-operate : tie.Need-slice-aggregate-operate
 slice-aggregate-operate c = simp length-take (omega arith)
 
 slice-aggregate-tell : tie.Need-slice-aggregate-tell
 slice-aggregate-tell c = simp length-take (omega arith)
+
+slice-aggregate-operate-2 : tie.Need-slice-aggregate-operate-2
+slice-aggregate-operate-2 c = simp length-take (omega arith)
+
+slice-aggregate-tell-table : tie.Need-slice-aggregate-tell-table
+slice-aggregate-tell-table c = simp length-take (omega arith)
 
 pub step-spec : {M : Type 1} → statement M
 step-spec =
@@ -46,13 +55,29 @@ step-spec =
     (λ c κs. search needs)
     (λ c. search needs)
     (λ c. search needs)
+    slice-aggregate-entries
+    (λ c κs. search needs)
+    (λ c κs. search needs)
+    (λ c. search needs)
+    (λ c. search needs)
     slice-aggregate-operate
     (λ c κs. search needs)
     (λ c. search needs)
     slice-aggregate-tell
     (λ c κs. search needs)
     (λ c. search needs)
+    (λ c. search needs)
+    slice-aggregate-operate-2
     (λ c κs. search needs)
+    (λ c. search needs)
+    slice-aggregate-tell-table
+    (λ c κs. search needs)
+    (λ c. search needs)
+    (λ c κs. search needs)
+    (λ c. search needs)
+    (λ c. search needs)
+    (λ c. search needs)
+    (λ c. search needs)
     (λ c. search needs)
     (λ c. search needs)
     (λ c. search needs)

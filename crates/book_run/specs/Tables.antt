@@ -1,0 +1,45 @@
+-- What is told of a table operation, and the buffer after it, by `requests`. Assumes nothing.
+use Prim.Native.Nat.{ℕ}
+use mathlib.Core.Bool.{true, false}
+use mathlib.Core.List.{List}
+use Rattle.rules.specs.Refusals.{Answer, Gives, Refused, _then_}
+use Rattle.rules.specs.Book.{newAnswer, newBuffer}
+use Rattle.requests.specs.FieldTable.{Declared, table1, check, entryAt, counted, declared, declareBuffer, removed, removeBuffer, lookup}
+use Rattle.kinds.specs.Views.{kindOf, bitsOf}
+use Rattle.field_table.specs.Views.{Bits, inBits}
+use Rattle.book_run.specs.declared.tables.TableOperation.{TableOperation}
+use Rattle.book_run.specs.declared.tables.TableOperation.the-variants as O
+use Rattle.book_run.specs.declared.tables.TableTold.{TableTold}
+use Rattle.book_run.specs.declared.tables.TableTold.the-variants as T
+
+-- what an operation gives: nothing to tell, a number of entries, an entry, or a date that was looked up
+pub data Value : Type 0 where
+  Done : Value
+  Number : ℕ → Value
+  Declares : Declared → Value
+  Dated : Bits → Value
+
+abbrev pub toldAs : TableTold → Answer Value
+toldAs T.Done = Gives Done
+toldAs (T.Number n) = Gives (Number n)
+toldAs (T.Entry field k) = Gives (Declares (record { key = field; kind = kindOf k }))
+toldAs (T.Declared k d) = Gives (Dated (record { kind = kindOf k; date = bitsOf d; guessed = false }))
+toldAs (T.Guessed k d) = Gives (Dated (record { kind = kindOf k; date = bitsOf d; guessed = true }))
+toldAs (T.Refused n) = Refused n
+
+abbrev pub answerOf : TableOperation → List ℕ → Answer Value
+answerOf O.New s = newAnswer s then λ n. Gives Done
+answerOf O.Check s = check table1 s then λ n. Gives (Number n)
+answerOf (O.Entry place) s = entryAt table1 s place then λ d. Gives (Declares d)
+answerOf (O.Declare field code) s = counted (declared table1 s field code) then λ n. Gives (Number n)
+answerOf (O.Remove field) s = counted (removed table1 s field) then λ n. Gives (Number n)
+answerOf (O.Lookup field game number) s = inBits (lookup table1 s field game number) then λ b. Gives (Dated b)
+
+-- new, declare and remove change the buffer
+abbrev pub bufferOf : TableOperation → List ℕ → List ℕ
+bufferOf O.New s = newBuffer (table1 .version) s
+bufferOf O.Check s = s
+bufferOf (O.Entry place) s = s
+bufferOf (O.Declare field code) s = declareBuffer table1 s field code
+bufferOf (O.Remove field) s = removeBuffer table1 s field
+bufferOf (O.Lookup field game number) s = s

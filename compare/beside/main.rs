@@ -23,6 +23,9 @@ mod numbers;
 mod port;
 mod report;
 mod spellings;
+mod table_lookups;
+mod table_questions;
+mod tables;
 mod tally;
 mod texts;
 mod valid_texts;
@@ -34,7 +37,7 @@ use std::process::ExitCode;
 type Subject = fn(Extent, &mut Report);
 
 /// What takes longest comes last.
-const SUBJECTS: [(&str, Subject); 10] = [
+const SUBJECTS: [(&str, Subject); 11] = [
     ("numbers", numbers::run),
     ("fields", fields::run),
     ("texts", texts::run),
@@ -42,6 +45,7 @@ const SUBJECTS: [(&str, Subject); 10] = [
     ("handed_in", handed_in::run),
     ("leaves", leaves::run),
     ("books", books::run),
+    ("tables", tables::run),
     ("lines", lines::run),
     ("spellings", spellings::run),
     ("days", days::run),

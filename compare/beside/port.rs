@@ -1,6 +1,6 @@
 //! The boundary, over slices.
 
-use pennyquill::ffi::{self, Answer, Record};
+use pennyquill::ffi::{self, Answer, Lookup, Record};
 
 pub type Writer = unsafe extern "C" fn(u32, u32, *mut u8, usize) -> Answer;
 
@@ -34,4 +34,57 @@ pub fn book_append(book: &mut [u8], kind: u32, date: u32) -> Answer {
 pub fn book_record(book: &[u8], place: usize) -> Record {
     // SAFETY: as above.
     unsafe { ffi::pq_book_record(book.as_ptr(), book.len(), place) }
+}
+
+pub fn table_new(table: &mut [u8]) -> Answer {
+    // SAFETY: as above.
+    unsafe { ffi::pq_table_new(table.as_mut_ptr(), table.len()) }
+}
+
+pub fn table_check(table: &[u8]) -> Answer {
+    // SAFETY: as above.
+    unsafe { ffi::pq_table_check(table.as_ptr(), table.len()) }
+}
+
+pub fn table_entry(table: &[u8], place: usize) -> Record {
+    // SAFETY: as above.
+    unsafe { ffi::pq_table_entry(table.as_ptr(), table.len(), place) }
+}
+
+pub fn table_declare(table: &mut [u8], field: u32, kind: u32) -> Answer {
+    // SAFETY: as above.
+    unsafe { ffi::pq_table_declare(table.as_mut_ptr(), table.len(), field, kind) }
+}
+
+pub fn table_remove(table: &mut [u8], field: u32) -> Answer {
+    // SAFETY: as above.
+    unsafe { ffi::pq_table_remove(table.as_mut_ptr(), table.len(), field) }
+}
+
+pub fn table_lookup(table: &[u8], field: u32, game_kind: u32, number: i32) -> Lookup {
+    // SAFETY: as above.
+    unsafe { ffi::pq_table_lookup(table.as_ptr(), table.len(), field, game_kind, number) }
+}
+
+pub fn table_lookup_all(
+    table: &[u8],
+    game_kind: u32,
+    fields: &[u32],
+    numbers: &[i32],
+    out: &mut [u32],
+) -> Answer {
+    // SAFETY: as above; four slices, of which the last is ours alone.
+    unsafe {
+        ffi::pq_table_lookup_all(
+            table.as_ptr(),
+            table.len(),
+            game_kind,
+            fields.as_ptr(),
+            fields.len(),
+            numbers.as_ptr(),
+            numbers.len(),
+            out.as_mut_ptr(),
+            out.len(),
+        )
+    }
 }

@@ -2,4 +2,5 @@
 pub mod OnEntries
 pub mod OnLaid
 pub mod OnFieldTable
+pub mod OnIsoReader
 pub mod Worked

@@ -1,2 +1,3 @@
 -- Worked cases, by computation.
 pub mod Tables
+pub mod IsoTexts

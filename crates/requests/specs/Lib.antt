@@ -1,3 +1,4 @@
 pub mod Entries
 pub mod Laid
 pub mod FieldTable
+pub mod IsoReader

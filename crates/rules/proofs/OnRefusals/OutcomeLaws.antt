@@ -41,6 +41,12 @@ pub outcome-then : {A B : Type 0} {R : ℕ → Type 0} {P : A → Type 0} {Q : B
 outcome-then (gives p) h = h _
 outcome-then (refuses r) h = refuses r
 
+-- where what follows may use what holds of the value
+pub outcome-next : {A B : Type 0} {R : ℕ → Type 0} {P : A → Type 0} {Q : B → Type 0} {x : Answer A} {next : A → Answer B}
+    → Outcome R P x → ((a : A) → P a → Outcome R Q (next a)) → Outcome R Q (x then next)
+outcome-next (gives p) h = h _ p
+outcome-next (refuses r) h = refuses r
+
 pub outcome-cond : {A : Type 0} {R : ℕ → Type 0} {P : A → Type 0} (t : Bool) {x y : Answer A} → Outcome R P x → Outcome R P y → Outcome R P (cond t x y)
 outcome-cond true p q = p
 outcome-cond false p q = q

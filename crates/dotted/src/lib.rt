@@ -11,7 +11,7 @@ ghost use Rattle.rules.specs.Text.{secondDigit, oneOrTwo, afterDot, hourAfter, 
 ghost use Rattle.dotted.specs.Views.{takenAs, hourAs, partsAs};
 
 // A number of one or two digits, and the place of what follows it.
-enum Taken {
+pub enum Taken {
     Value { value: u8, next: usize },
     Nothing,
 }
@@ -59,7 +59,7 @@ fn second_digit(s: &[u8], at: usize, first: u8) -> Taken
 }
 
 // One or two digits.
-fn one_or_two(s: &[u8], at: usize) -> Taken
+pub fn one_or_two(s: &[u8], at: usize) -> Taken
     ensures { λ r. ⌜ takenAs (now (s .entry)) r ≡ oneOrTwo (drop at (now (s .entry))) ⌝ }
 {
     if s.len() <= at {

@@ -20,7 +20,7 @@ use Rattle.listing.specs.declared.Listed.{Listed}
 use Rattle.listing.specs.declared.Listed.the-variants as L
 use Rattle.listing.specs.Answers.{listedAs, lengthOf}
 use Rattle.listing.specs.Views.{printed}
-use Rattle.listing.proofs.LineTexts.{length-told}
+use Rattle.formatter.proofs.Texts.{length-told}
 
 -- ---- the first of the lines from a place on, which ends where the code finds byte 10
 

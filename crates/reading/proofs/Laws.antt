@@ -63,6 +63,16 @@ module _ (k : Kind) (v : ℤ) where
   unfolding numberText
   number-some f a b e = rw (a, b, e)
 
+-- ---- fields of any year
+
+module _ (k : Kind) (f : Fields) where
+  abbrev pub fieldsDate : Answer Stored
+  fieldsDate = store (settled k notText f)
+
+  pub year-refused : fits16 (f .year) ≡ false → fieldsDate ≡ Refused notText
+  unfolding settled made ofKind
+  year-refused e = rw e
+
 -- ---- the dotted part
 
 module _ (k : Kind) (y : ℤ) (s : List ℕ) where
@@ -72,13 +82,8 @@ module _ (k : Kind) (y : ℤ) (s : List ℕ) where
   pub dotted-none : dottedPart y s ≡ Refused notText → dottedDate ≡ Refused notText
   dotted-none e = rw e
 
-  module _ (m d h : ℕ) (e : dottedPart y s ≡ Gives (record { year = y; month = m; day = d; hour = h })) where
-    pub dotted-out : fits16 y ≡ false → dottedDate ≡ Refused notText
-    unfolding settled made ofKind
-    dotted-out a = rw (e, a)
-
-    pub dotted-some : dottedDate ≡ store (settled k notText (record { year = y; month = m; day = d; hour = h }))
-    dotted-some = rw e
+  pub dotted-some : (f : Fields) → dottedPart y s ≡ Gives f → dottedDate ≡ fieldsDate k f
+  dotted-some f e = rw e
 
 -- ---- the two
 

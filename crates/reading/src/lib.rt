@@ -54,20 +54,27 @@ fn number_text(kind: Kind, value: i64) -> Made
     Made::None
 }
 
-// The dotted part, after a year that must fit 16 bits.
+// The date of what a text says, its year being any number: one that does not fit 16 bits is no date's.
+pub fn settle_year(kind: Kind, year: i64, month: u8, day: u8, hour: u8) -> Made
+    ensures { λ r. ⌜ madeAs notText r ≡ store (settled (kindOf kind) notText (record { year = year; month = month; day = day; hour = hour })) ⌝ }
+{
+    if year < -32768 {
+        return Made::None;
+    }
+    if 32767 < year {
+        return Made::None;
+    }
+    kinds::settle(kind, sign::narrow16(year), month, day, hour)
+}
+
+// The dotted part, after the year.
 fn dotted_text(kind: Kind, s: &[u8], value: i64, next: usize) -> Made
     ensures { λ r. ⌜ madeAs notText r ≡ store (dottedPart value (drop next (now (s .entry))) then λ f. settled (kindOf kind) notText f) ⌝ }
 {
     let Parts::Fields { month, day, hour } = dotted::dotted_part(s, next) else {
         return Made::None;
     };
-    if value < -32768 {
-        return Made::None;
-    }
-    if 32767 < value {
-        return Made::None;
-    }
-    kinds::settle(kind, sign::narrow16(value), month, day, hour)
+    settle_year(kind, value, month, day, hour)
 }
 
 // The date of a text whose leading number is `value`, with the rest from `next` on.

@@ -6,7 +6,8 @@ use denote.Ref.{now}
 use lib.ListN.{length}
 use Rattle.rules.specs.Listing.{lineOutput}
 use Rattle.rules.proofs.OnSpelling.WriteLaws.{wrote, wrote-whole, wrote-short}
-use Rattle.listing.proofs.LineTexts.{taken, copied}
+use Rattle.formatter.proofs.Texts.{taken}
+use Rattle.listing.proofs.LineTexts.{copied}
 use Rattle.listing.proofs.line.Statement.{statement}
 use Rattle.listing.proofs.line.Tie as tie
 

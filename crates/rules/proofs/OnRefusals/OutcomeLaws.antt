@@ -3,7 +3,8 @@
 use mathlib.Core.Path.{_≡_, refl, subst}
 use mathlib.Core.Bool.{Bool, true, false, cond, not, _&&_}
 use mathlib.Core.List.{List, [], _∷_}
-use Prim.Native.Nat.{ℕ}
+use Prim.Native.Nat.{ℕ, _+_, _*_, _≤_, _<_}
+use native.Mathlib.Omega.{arith}
 use lib.Dec.{T, leb, eqb}
 use lib.IntN.{ℤ, pos}
 use lib.ListN.{length}
@@ -11,8 +12,9 @@ use Rattle.rules.specs.Words.{within, minus, fits32, byte}
 use Rattle.rules.specs.Refusals.{Answer, Gives, Refused, _then_, demand, given, notText, notNumber, notOfKind, tooLong}
 use Rattle.rules.specs.Kinds.{Kind, Fields, withHour, ofKind, settledHour, made, settled}
 use Rattle.rules.specs.Numbers.{decoded, decodedHour, guessed, guesses, guessNumber, hasFields, numberFields, readsNumbers, readNumber}
-use Rattle.rules.specs.Text.{Read, isDigit, digits, afterDigits, decimalValue, notZeroFirst, atEnd, readsNumberTexts, afterDot, oneOrTwo, hourAfter, dottedPart, numberText, shapeAllowed, leading, textLimit, textFields, readText}
+use Rattle.rules.specs.Text.{Read, isDigit, digitValue, secondDigit, digits, afterDigits, decimalValue, notZeroFirst, atEnd, readsNumberTexts, afterDot, oneOrTwo, hourAfter, dottedPart, numberText, shapeAllowed, leading, textLimit, textFields, readText}
 use Rattle.rules.specs.Listing.{digitsAsNumber, lineNumber}
+use Rattle.rules.proofs.OnKinds.KindLaws.{high}
 
 -- a value of which P holds, or a refusal of whose number R holds
 pub data Outcome {A : Type 0} (R : ℕ → Type 0) (P : A → Type 0) : Answer A → Type 0 where
@@ -77,10 +79,23 @@ unfolding afterDot
 outcome-dot two [] = refuses two
 outcome-dot two (b ∷ s) = outcome-demand (eqb b (byte ".")) notText two (gives tt)
 
-pub outcome-digits : {R : ℕ → Type 0} → R notText → (s : List ℕ) → Outcome R Any (oneOrTwo s)
+digit-small : (b : ℕ) → isDigit b ≡ true → digitValue b ≤ 9
+digit-small b e = omega (arith, high (byte "0") (byte "9") b e)
+
+second-small : (v : ℕ) (s : List ℕ) → v ≤ 9 → secondDigit v s .value < 100
+unfolding secondDigit
+second-small v [] h = omega arith
+second-small v (b ∷ s) h = by (isDigit b) refl
+  where
+    by : (t : Bool) → isDigit b ≡ t → cond {A = Read ℕ} t (record { value = v * 10 + digitValue b; rest = s }) (record { value = v; rest = b ∷ s }) .value < 100
+    by true e = omega (arith, digit-small b e)
+    by false e = omega arith
+
+-- a number below 100
+pub outcome-digits : {R : ℕ → Type 0} → R notText → (s : List ℕ) → Outcome R (λ r. r .value < 100) (oneOrTwo s)
 unfolding oneOrTwo
 outcome-digits two [] = refuses two
-outcome-digits two (b ∷ s) = outcome-demand (isDigit b) notText two (gives tt)
+outcome-digits two (b ∷ s) = outcome-if (isDigit b) notText two (λ e. gives (second-small (digitValue b) s (digit-small b e)))
 
 pub outcome-hour : {R : ℕ → Type 0} → R notText → (s : List ℕ) → Outcome R Any (hourAfter s)
 unfolding hourAfter

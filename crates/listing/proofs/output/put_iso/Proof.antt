@@ -4,7 +4,7 @@ use denote.Ref.{now}
 use Rattle.rules.specs.Spelling.{iso}
 use Rattle.rules.proofs.OnSpelling.LengthLaws.{text-lengths}
 use Rattle.kinds.specs.Views.{kindOf, bitsOf}
-use Rattle.listing.proofs.LineTexts.{fits}
+use Rattle.formatter.proofs.Texts.{fits}
 use Rattle.listing.proofs.output.put_iso.Statement.{statement}
 use Rattle.listing.proofs.output.put_iso.Tie as tie
 

@@ -1,13 +1,15 @@
-// A text read as a date of any kind: the reader is the kind's own.
+// A text read as a date of any kind: a dotted text by the kind's own reader, an ISO text by the one that all kinds share.
 ghost use mathlib.Core.Path.{_≡_};
 ghost use Rattle.rules.specs.Kinds.{kR, kD, kH, kU, kE, kV, store};
 ghost use Rattle.rules.specs.Text.{readText};
+ghost use Rattle.requests.specs.IsoReader.{readIso};
 ghost use Rattle.kinds.specs.Views.{kindOf};
 ghost use Rattle.by_kind.specs.Views.{parsedAs};
 use date::Date;
 use date_hour::DateHour;
 use eu5_date::Eu5Date;
 use kinds::Kind;
+use kinds::Made;
 use kinds::Packed;
 use raw_date::RawDate;
 use uniform_date::UniformDate;
@@ -114,5 +116,18 @@ pub fn parse(kind: Kind, s: &[u8]) -> Parsed
         Kind::Uniform => uniform(s),
         Kind::Eu5 => eu5(s),
         Kind::Vic3 => vic3(s),
+    }
+}
+
+pub fn parse_iso(kind: Kind, s: &[u8]) -> Parsed
+    ensures { λ r. ⌜ parsedAs r ≡ store (readIso (kindOf kind) (now (s .entry))) ⌝ }
+{
+    if reading::TEXT_LIMIT < s.len() {
+        return Parsed::TooLong;
+    }
+    let made = iso_reading::read(kind, s);
+    match made {
+        Made::Date(raw) => Parsed::Date(raw),
+        Made::None => Parsed::NotText,
     }
 }

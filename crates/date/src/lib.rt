@@ -8,6 +8,7 @@ ghost use Rattle.rules.specs.Numbers.{readNumber, guessNumber, writeNumber};
 ghost use Rattle.rules.specs.Days.{addDays, difference, order};
 ghost use Rattle.rules.specs.Text.{plusAllowed, shapeAllowed, readText};
 ghost use Rattle.rules.specs.Spelling.{dotted, iso, exchange, putAnswer, putBuffer};
+ghost use Rattle.requests.specs.IsoReader.{readIso};
 ghost use Rattle.kinds.specs.Views.{orderedAs};
 ghost use Rattle.number.specs.Views.{writtenAs};
 ghost use Rattle.day_count.specs.Views.{countedAs};
@@ -192,6 +193,20 @@ impl Date {
             fast_date::Fast::Date(raw) => Parsed::Date(Date { raw }),
             fast_date::Fast::NotText => Parsed::NotText,
             fast_date::Fast::Silent => Date::plain(s),
+        }
+    }
+
+    // The date whose ISO text this is, in the one spelling that is written.
+    pub fn parse_iso(s: &[u8]) -> Parsed
+        ensures { λ r. ⌜ parsedAs r ≡ store (readIso kD (now (s .entry))) ⌝ }
+    {
+        if reading::TEXT_LIMIT < s.len() {
+            return Parsed::TooLong;
+        }
+        let made = iso_reading::read(Kind::Date, s);
+        match made {
+            kinds::Made::Date(raw) => Parsed::Date(Date { raw }),
+            kinds::Made::None => Parsed::NotText,
         }
     }
 

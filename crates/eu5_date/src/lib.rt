@@ -8,6 +8,7 @@ ghost use Rattle.rules.specs.Numbers.{readNumber, guessNumber};
 ghost use Rattle.rules.specs.Days.{addDays, difference, startOfDay, order};
 ghost use Rattle.rules.specs.Text.{readText};
 ghost use Rattle.rules.specs.Spelling.{dotted, iso, exchange, isoDateAlone, putAnswer, putBuffer};
+ghost use Rattle.requests.specs.IsoReader.{readIso};
 ghost use Rattle.kinds.specs.Views.{orderedAs};
 ghost use Rattle.day_count.specs.Views.{countedAs};
 ghost use Rattle.formatter.specs.Views.{spelledAs, lengthOf};
@@ -156,6 +157,20 @@ impl Eu5Date {
             return Parsed::NotText;
         };
         let made = reading::read_rest(Kind::Eu5, s, value, next);
+        match made {
+            kinds::Made::Date(raw) => Parsed::Date(Eu5Date { raw }),
+            kinds::Made::None => Parsed::NotText,
+        }
+    }
+
+    // The date whose ISO text this is, in the one spelling that is written.
+    pub fn parse_iso(s: &[u8]) -> Parsed
+        ensures { λ r. ⌜ parsedAs r ≡ store (readIso kE (now (s .entry))) ⌝ }
+    {
+        if reading::TEXT_LIMIT < s.len() {
+            return Parsed::TooLong;
+        }
+        let made = iso_reading::read(Kind::Eu5, s);
         match made {
             kinds::Made::Date(raw) => Parsed::Date(Eu5Date { raw }),
             kinds::Made::None => Parsed::NotText,

@@ -7,6 +7,7 @@ ghost use Rattle.rules.specs.Kinds.{kU, unpacked, least, greatest, fromFields, 
 ghost use Rattle.rules.specs.Days.{order};
 ghost use Rattle.rules.specs.Text.{readText};
 ghost use Rattle.rules.specs.Spelling.{dotted, iso, exchange, putAnswer, putBuffer};
+ghost use Rattle.requests.specs.IsoReader.{readIso};
 ghost use Rattle.kinds.specs.Views.{orderedAs};
 ghost use Rattle.formatter.specs.Views.{spelledAs, lengthOf};
 ghost use Rattle.uniform_date.specs.Views.{bits, madeAs, parsedAs};
@@ -105,6 +106,20 @@ impl UniformDate {
             return Parsed::NotText;
         };
         let made = reading::read_rest(Kind::Uniform, s, value, next);
+        match made {
+            kinds::Made::Date(raw) => Parsed::Date(UniformDate { raw }),
+            kinds::Made::None => Parsed::NotText,
+        }
+    }
+
+    // The date whose ISO text this is, in the one spelling that is written.
+    pub fn parse_iso(s: &[u8]) -> Parsed
+        ensures { λ r. ⌜ parsedAs r ≡ store (readIso kU (now (s .entry))) ⌝ }
+    {
+        if reading::TEXT_LIMIT < s.len() {
+            return Parsed::TooLong;
+        }
+        let made = iso_reading::read(Kind::Uniform, s);
         match made {
             kinds::Made::Date(raw) => Parsed::Date(UniformDate { raw }),
             kinds::Made::None => Parsed::NotText,

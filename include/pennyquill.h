@@ -52,9 +52,16 @@ typedef struct {
     uint32_t guessed; /* 0: declared, decoded in full; 1: not declared, guessed */
 } pq_lookup;
 
-/* A date from a text; from a number that is declared as a date; from any number, by the narrow guess; from its fields, of
-   which D, U and E ignore the hour. The value is the date. */
+/* A date from a dotted text, or for D, H and U from a number's text; from its ISO text; from a number that is declared as
+   a date; from any number, by the narrow guess; from its fields, of which D, U and E ignore the hour. The value is the
+   date.
+
+   An ISO text is read as pq_write_iso spells it and in no other way: the year -5 is -005, never -5 or -0005. R takes an
+   hour or none; D and U refuse one; H, E and V demand theirs, so that E's ISO date alone is refused. Every date comes back
+   as it was, but for E's odd hours, which come back even: 2 and 3 are both written as T09, and T09 is read as 2. No dotted
+   text is read there, and no ISO text by pq_read_text. */
 pq_answer pq_read_text(uint32_t kind, const uint8_t *text, size_t len);
+pq_answer pq_read_iso(uint32_t kind, const uint8_t *text, size_t len);
 pq_answer pq_read_number(uint32_t kind, int32_t number);
 pq_answer pq_guess_number(uint32_t kind, int32_t number);
 pq_answer pq_from_fields(uint32_t kind, int32_t year, uint32_t month, uint32_t day, uint32_t hour);

@@ -1,9 +1,10 @@
-/* Every function of the boundary on damaged input: texts cut short, kinds and fields and dates that are none, books and
- * tables cut and changed at each byte. Each buffer is allocated with exactly its length, so that valgrind sees an access one
- * byte past it. Here it is checked that a refusal changes no byte and gives 0 beside its number (11: a place), that a text
- * fits its room, that what stands after a text, a book or a table stays, and that what is told of a table agrees with its
- * bytes, with the full decoder and with the guess. Prints how many calls there were and a digest of their answers, those of
- * tables by themselves; the status is 1 after a fault. */
+/* Every function of the boundary on damaged input: texts cut short, kinds and fields and dates that are none, books, tables
+ * and ISO texts cut and changed at each byte. Each buffer is allocated with exactly its length, so that valgrind sees an
+ * access one byte past it. Here it is checked that a refusal changes no byte and gives 0 beside its number (11: a place),
+ * that a text fits its room, that what stands after a text, a book or a table stays, that what is told of a table agrees
+ * with its bytes, with the full decoder and with the guess, and that a date is read from an ISO text exactly where it is
+ * written so. Prints how many calls there were and a digest of their answers, those of tables and those of ISO texts by
+ * themselves; the status is 1 after a fault. */
 #include "pennyquill.h"
 #include <inttypes.h>
 #include <stdio.h>
@@ -55,15 +56,33 @@ static void told(const char *what, uint32_t kind, uint32_t number, uint32_t refu
         fault(what, kind, number);
 }
 
-static void read_text(uint32_t kind, const void *bytes, size_t length) {
+typedef pq_answer reader(uint32_t, const uint8_t *, size_t);
+
+static pq_answer read_by(const char *what, reader *get, uint32_t kind, const void *bytes, size_t length) {
     uint8_t *text = exact(bytes, length);
-    pq_answer answer = pq_read_text(kind, text, length);
-    told("read text", kind, (uint32_t)length, answer.refusal, answer.value);
+    pq_answer answer = get(kind, text, length);
+    told(what, kind, (uint32_t)length, answer.refusal, answer.value);
     if (is_kind(kind) && length > 16 && answer.refusal != 1)
         fault("a long text", kind, (uint32_t)length);
     if (length > 0 && memcmp(text, bytes, length) != 0)
         fault("a text changed", kind, (uint32_t)length);
     free(text);
+    return answer;
+}
+
+static void read_text(uint32_t kind, const void *bytes, size_t length) {
+    read_by("read text", pq_read_text, kind, bytes, length);
+}
+
+/* Random bytes, and random ones of thirteen telling bytes, by a way of reading. */
+static void jumble(void (*read)(uint32_t, const void *, size_t), const char *telling) {
+    for (int round = 0; round < 20000; round++) {
+        uint8_t bytes[40];
+        size_t length = random_word() % 41;
+        for (size_t i = 0; i < length; i++)
+            bytes[i] = round % 2 ? (uint8_t)random_word() : (uint8_t)telling[random_word() % 13];
+        read(kinds[random_word() % KINDS], bytes, length);
+    }
 }
 
 static void texts(void) {
@@ -75,13 +94,7 @@ static void texts(void) {
         for (size_t length = 0; length <= strlen(whole[place]); length++)
             for (size_t k = 0; k < KINDS; k++)
                 read_text(kinds[k], whole[place], length);
-    for (int round = 0; round < 20000; round++) {
-        uint8_t bytes[40];
-        size_t length = random_word() % 41;
-        for (size_t i = 0; i < length; i++)
-            bytes[i] = round % 2 ? (uint8_t)random_word() : (uint8_t)"0123456789.-+"[random_word() % 13];
-        read_text(kinds[random_word() % KINDS], bytes, length);
-    }
+    jumble(read_text, "0123456789.-+");
 }
 
 typedef pq_answer writer(uint32_t, uint32_t, uint8_t *, size_t);
@@ -526,6 +539,119 @@ static void full_tables(void) {
     free(full);
 }
 
+/* ---- ISO texts */
+
+/* The date whose numbers a text has, if it is an ISO text; else any number. */
+static uint32_t date_in(uint32_t kind, const char *text) {
+    int year = 0;
+    unsigned month = 0, day = 0, hour = 0, stored = 0;
+    int parts = sscanf(text, "%6d-%2u-%2uT%2u", &year, &month, &day, &hour);
+    if (kind == 6)
+        stored = hour;
+    else if (kind == 5)
+        stored = 2 * (hour - 8);
+    else if (kind != 2 && kind != 4 && parts == 4)
+        stored = hour + 1;
+    return (uint32_t)(uint16_t)year << 16 | month << 12 | day << 7 | stored << 2;
+}
+
+/* What has to be answered to an ISO text: a date exactly where that date is written so. */
+static pq_answer iso_answer(uint32_t kind, const void *bytes, size_t length) {
+    if (!is_kind(kind))
+        return (pq_answer){4, 0};
+    if (length > 16)
+        return (pq_answer){1, 0};
+    char text[17] = {0};
+    if (length > 0)
+        memcpy(text, bytes, length);
+    uint32_t date = date_in(kind, text);
+    uint8_t written[16];
+    pq_answer iso = pq_write_iso(kind, date, written, sizeof written);
+    int is_same = iso.refusal == 0 && iso.value == length && memcmp(written, text, length) == 0;
+    return is_same ? (pq_answer){0, date} : (pq_answer){2, 0};
+}
+
+static void read_iso(uint32_t kind, const void *bytes, size_t length) {
+    pq_answer answer = read_by("read ISO text", pq_read_iso, kind, bytes, length);
+    pq_answer wanted = iso_answer(kind, bytes, length);
+    if (answer.refusal != wanted.refusal || answer.value != wanted.value)
+        fault("an ISO text's answer", kind, (uint32_t)length);
+}
+
+static void read_iso_by_all(const void *bytes, size_t length) {
+    for (uint32_t kind = 1; kind <= 6; kind++)
+        read_iso(kind, bytes, length);
+}
+
+/* A text cut at each length and made longer up to 40 bytes, by all codes; then by the six kinds with each byte replaced by
+   all 256, with each byte left out, and with a byte put in before each and at the end. */
+static void damaged_iso(const char *whole) {
+    size_t length = strlen(whole);
+    char longer[40];
+    for (size_t i = 0; i < sizeof longer; i++)
+        longer[i] = i < length ? whole[i] : "0-T1"[i % 4];
+    for (size_t cut = 0; cut <= sizeof longer; cut++)
+        for (size_t k = 0; k < KINDS; k++)
+            read_iso(kinds[k], longer, cut);
+    for (size_t place = 0; place < length; place++) {
+        char changed[40];
+        memcpy(changed, whole, length);
+        for (unsigned byte = 0; byte < 256; byte++) {
+            changed[place] = (char)byte;
+            read_iso_by_all(changed, length);
+        }
+        memcpy(changed + place, whole + place + 1, length - place - 1);
+        read_iso_by_all(changed, length - 1);
+    }
+    static const char put_in[] = "0123456789-+.:T tZ";
+    for (size_t place = 0; place <= length; place++)
+        for (size_t i = 0; i < sizeof put_in; i++) { /* the byte 0 too */
+            char changed[40];
+            memcpy(changed, whole, place);
+            changed[place] = put_in[i];
+            memcpy(changed + place + 1, whole + place, length - place);
+            read_iso_by_all(changed, length + 1);
+        }
+}
+
+/* ISO texts of dates and of numbers that are next to those of dates, with an hour or without; every third may be cut. */
+static void drawn_iso(void) {
+    for (int round = 0; round < 40000; round++) {
+        int year = round % 2 ? (int16_t)random_word() : (int)(random_word() % 4001) - 2000;
+        unsigned month = random_word() % 14, day = random_word() % 33, hour = random_word() % 26;
+        char text[40];
+        int length = snprintf(text, sizeof text, "%04d-%02u-%02uT%02u", year, month, day, hour);
+        if (random_word() % 3 == 0)
+            length -= 3;
+        if (round % 3 == 0)
+            length -= (int)(random_word() % 4);
+        read_iso(random_word() % 8 == 0 ? some_kind() : 1 + random_word() % 6, text, (size_t)length);
+    }
+}
+
+static void iso_texts(void) {
+    static const char *const whole[] = {
+        "1444-11-11", "1444-02-31", "1444-02-30", "0000-01-01", "-005-01-01", "-999-12-31", "-1000-02-28", "10000-10-10",
+        "-32768-01-01", "32767-12-31", "1936-01-01T00", "-32768-12-31T23", "1444-11-11T09", "-005-06-30T19",
+        "1836-02-03T18", "-999-12-31T12"};
+    for (size_t i = 0; i < sizeof whole / sizeof whole[0]; i++)
+        damaged_iso(whole[i]);
+    static const char *const other[] = {
+        "-5-01-01", "-0005-01-01", "+005-01-01", "0005-1-1", "00005-01-01", "-000-01-01", "-0999-01-01", "+1444-11-11",
+        "01444-11-11", "32768-01-01", "-32769-01-01", "65536-01-01", "99999-12-31", "1444-11-11T07", "1444-11-11T20",
+        "1444-11-11T24", "1444-11-11T9", "1444-11-11t09", "1444-11-11 09", "1444-11-11T09:00", "1444-11-11T09Z", "14441111",
+        "20000101T00", "1444.11.11", "1444.11.11.9", "43808760", "-8760", "", "-", "----", "T", "T09"};
+    for (size_t i = 0; i < sizeof other / sizeof other[0]; i++)
+        for (size_t k = 0; k < KINDS; k++)
+            read_iso(kinds[k], other[i], strlen(other[i]));
+    for (size_t k = 0; k < KINDS; k++) {
+        pq_answer nothing = pq_read_iso(kinds[k], NULL, 0);
+        told("no ISO text", kinds[k], 0, nothing.refusal, nothing.value);
+    }
+    drawn_iso();
+    jumble(read_iso, "0123456789-+T");
+}
+
 /* Prints the counts since the last time. */
 static void tell(const char *what) {
     printf("%s%lu calls, %lu refused, %lu faults, digest %08" PRIx32 "\n", what, calls, refusals, faults, digest);
@@ -542,5 +668,7 @@ int main(void) {
     small_tables();
     full_tables();
     tell("tables: ");
+    iso_texts();
+    tell("ISO texts: ");
     return status;
 }

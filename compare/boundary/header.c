@@ -54,6 +54,32 @@ static void dates(void) {
     gives("pq_start_of_day", pq_start_of_day(E, date(1337, 4, 1, 22)), 0, date(1337, 4, 1, 0));
 }
 
+static void reads_iso(const char *what, uint32_t kind, const char *text, uint32_t refusal, uint32_t value) {
+    gives(what, pq_read_iso(kind, (const uint8_t *)text, strlen(text)), refusal, value);
+}
+
+static void iso_texts(void) {
+    reads_iso("pq_read_iso", R, "1444-11-12T12", 0, date(1444, 11, 12, 13));
+    reads_iso("pq_read_iso, no hour", R, "1444-11-12", 0, date(1444, 11, 12, 0));
+    reads_iso("pq_read_iso, hour 1", H, "1936-02-03T00", 0, date(1936, 2, 3, 1));
+    reads_iso("pq_read_iso, an hour of V", V, "1836-02-03T18", 0, date(1836, 2, 3, 18));
+    reads_iso("pq_read_iso, no hour of V", V, "1836-02-03T07", 2, 0);
+    reads_iso("pq_read_iso, 30 February", U, "2200-02-30", 0, date(2200, 2, 30, 0));
+    reads_iso("pq_read_iso, a year before 0", D, "-005-01-02", 0, date(-5, 1, 2, 0));
+    reads_iso("pq_read_iso, that year in another spelling", D, "-0005-01-02", 2, 0);
+    reads_iso("pq_read_iso, an hour where there is none", D, "1444-11-12T12", 2, 0);
+    reads_iso("pq_read_iso, 16 bytes", R, "1444-11-12T12:00", 2, 0);
+    reads_iso("pq_read_iso, 17 bytes", R, "1444-11-12T12:00Z", 1, 0);
+    reads_iso("pq_read_iso, a kind that is none", 7, "1444-11-12T12:00Z", 4, 0);
+    const uint8_t text[] = "1444-11-12x";
+    gives("pq_read_iso, a byte more", pq_read_iso(D, text, 11), 2, 0);
+    gives("pq_read_iso, as long as it is said to be", pq_read_iso(D, text, 10), 0, date(1444, 11, 12, 0));
+    uint8_t out[16];
+    gives("pq_write_iso, an odd hour", pq_write_iso(E, date(1444, 11, 12, 3), out, sizeof out), 0, 13);
+    gives("pq_read_iso, the even hour", pq_read_iso(E, out, 13), 0, date(1444, 11, 12, 2));
+    gives("pq_read_iso, the date alone", pq_read_iso(E, out, 10), 2, 0);
+}
+
 static void numbers(void) {
     counts("pq_to_number", pq_to_number(H, date(1, 1, 1, 24)), 0, 43808783);
     counts("pq_days_until", pq_days_until(D, date(1444, 11, 11, 0), date(1445, 11, 14, 0)), 0, 368);
@@ -181,6 +207,7 @@ static void tables(void) {
 
 int main(void) {
     dates();
+    iso_texts();
     numbers();
     texts();
     books();

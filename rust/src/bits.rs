@@ -5,6 +5,9 @@
 use crate::ffi::{self, Answer, Number};
 use crate::refusal::Refusal;
 
+/// The signature that the two readers of texts of the boundary share.
+pub(crate) type Reader = unsafe extern "C" fn(u32, *const u8, usize) -> Answer;
+
 /// The signature that the four writers of the boundary share.
 pub(crate) type Writer = unsafe extern "C" fn(u32, u32, *mut u8, usize) -> Answer;
 
@@ -21,9 +24,10 @@ pub(crate) fn counted(number: Number) -> i32 {
     number.value
 }
 
-pub(crate) fn read(kind: u32, text: &[u8]) -> Result<u32, Refusal> {
+/// The bits of a text's date.
+pub(crate) fn read(reader: Reader, kind: u32, text: &[u8]) -> Result<u32, Refusal> {
     // SAFETY: the pointer and the length are those of a slice.
-    given(unsafe { ffi::pq_read_text(kind, text.as_ptr(), text.len()) })
+    given(unsafe { reader(kind, text.as_ptr(), text.len()) })
 }
 
 pub(crate) fn from_fields(

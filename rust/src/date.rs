@@ -42,7 +42,25 @@ impl Date {
     /// assert_eq!(Date::parse("1444.11.11.1"), Err(Refusal::NotText));
     /// ```
     pub fn parse<T: AsRef<[u8]>>(text: T) -> Result<Self, Refusal> {
-        let bits = bits::read(Self::KIND, text.as_ref())?;
+        let bits = bits::read(ffi::pq_read_text, Self::KIND, text.as_ref())?;
+        Ok(Date { bits })
+    }
+
+    /// The date of an ISO text, as [`iso_8601`](PdsDate::iso_8601) writes it and in no other spelling; one with an hour
+    /// is none of D's. Refusal 1 for a text over 16 bytes, 2 for any other that is no date's. Not in jomini.
+    ///
+    /// ```
+    /// use pennyquill::{Date, Refusal};
+    /// assert_eq!(Date::from_iso_8601("1444-11-11"), Date::parse("1444.11.11"));
+    /// assert_eq!(Date::from_iso_8601("1444-11-11T00"), Err(Refusal::NotText));
+    ///
+    /// // The sign of a year counts among its four places. -0005 is the year in the exchange text.
+    /// assert_eq!(Date::from_iso_8601("-005-01-01"), Date::parse("-5.1.1"));
+    /// assert_eq!(Date::from_iso_8601("-0005-01-01"), Err(Refusal::NotText));
+    /// assert_eq!(Date::from_iso_8601("-5-01-01"), Err(Refusal::NotText));
+    /// ```
+    pub fn from_iso_8601<T: AsRef<[u8]>>(text: T) -> Result<Self, Refusal> {
+        let bits = bits::read(ffi::pq_read_iso, Self::KIND, text.as_ref())?;
         Ok(Date { bits })
     }
 

@@ -42,7 +42,23 @@ impl DateHour {
     /// assert_eq!(DateHour::parse("1936.1.1"), Err(Refusal::NotText));
     /// ```
     pub fn parse<T: AsRef<[u8]>>(text: T) -> Result<Self, Refusal> {
-        let bits = bits::read(Self::KIND, text.as_ref())?;
+        let bits = bits::read(ffi::pq_read_text, Self::KIND, text.as_ref())?;
+        Ok(DateHour { bits })
+    }
+
+    /// The date of an ISO text, as [`iso_8601`](PdsDate::iso_8601) writes it and in no other spelling: always with an
+    /// hour, which runs from 0 there. Refusal 1 for a text over 16 bytes, 2 for any other that is no date's. Not in
+    /// jomini.
+    ///
+    /// ```
+    /// use pennyquill::{DateHour, Refusal};
+    /// assert_eq!(DateHour::from_iso_8601("1936-01-01T00"), DateHour::parse("1936.1.1.1"));
+    /// assert_eq!(DateHour::from_iso_8601("1936-01-01T23"), DateHour::parse("1936.1.1.24"));
+    /// assert_eq!(DateHour::from_iso_8601("1936-01-01T24"), Err(Refusal::NotText));
+    /// assert_eq!(DateHour::from_iso_8601("1936-01-01"), Err(Refusal::NotText));
+    /// ```
+    pub fn from_iso_8601<T: AsRef<[u8]>>(text: T) -> Result<Self, Refusal> {
+        let bits = bits::read(ffi::pq_read_iso, Self::KIND, text.as_ref())?;
         Ok(DateHour { bits })
     }
 

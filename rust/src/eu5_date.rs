@@ -46,7 +46,30 @@ impl Eu5Date {
     /// assert_eq!(Eu5Date::parse("1444.11.11.24"), Err(Refusal::NotText));
     /// ```
     pub fn parse<T: AsRef<[u8]>>(text: T) -> Result<Self, Refusal> {
-        let bits = bits::read(Self::KIND, text.as_ref())?;
+        let bits = bits::read(ffi::pq_read_text, Self::KIND, text.as_ref())?;
+        Ok(Eu5Date { bits })
+    }
+
+    /// The date of an ISO text, as [`iso_8601`](PdsDate::iso_8601) writes it and in no other spelling: always with an
+    /// hour, so that the date alone, as [`date_fmt`](Self::date_fmt) writes it, is refused. The hour is the one in the
+    /// game, and its even hour component comes back. Refusal 1 for a text over 16 bytes, 2 for any other that is no
+    /// date's. Not in jomini.
+    ///
+    /// ```
+    /// use pennyquill::{Eu5Date, PdsDate, Refusal};
+    /// let kept = Eu5Date::parse("1444.11.11.3")?.iso_8601();
+    /// assert_eq!(kept, "1444-11-11T09");
+    /// assert_eq!(Eu5Date::from_iso_8601(kept.as_bytes()), Eu5Date::parse("1444.11.11.2"));
+    /// assert_eq!(Eu5Date::from_iso_8601("1444-11-11T19"), Eu5Date::parse("1444.11.11.22"));
+    ///
+    /// // The hours in the game are 8 to 19.
+    /// assert_eq!(Eu5Date::from_iso_8601("1444-11-11T07"), Err(Refusal::NotText));
+    /// assert_eq!(Eu5Date::from_iso_8601("1444-11-11T20"), Err(Refusal::NotText));
+    /// assert_eq!(Eu5Date::from_iso_8601("1444-11-11"), Err(Refusal::NotText));
+    /// # Ok::<(), Refusal>(())
+    /// ```
+    pub fn from_iso_8601<T: AsRef<[u8]>>(text: T) -> Result<Self, Refusal> {
+        let bits = bits::read(ffi::pq_read_iso, Self::KIND, text.as_ref())?;
         Ok(Eu5Date { bits })
     }
 

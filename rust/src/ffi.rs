@@ -55,6 +55,7 @@ unsafe extern "C" {
     pub safe fn pq_order(kind: u32, one: u32, other: u32) -> Number;
 
     pub fn pq_read_text(kind: u32, text: *const u8, len: usize) -> Answer;
+    pub fn pq_read_iso(kind: u32, text: *const u8, len: usize) -> Answer;
     pub fn pq_write_dotted(kind: u32, date: u32, out: *mut u8, room: usize) -> Answer;
     pub fn pq_write_iso(kind: u32, date: u32, out: *mut u8, room: usize) -> Answer;
     pub fn pq_write_iso_date(kind: u32, date: u32, out: *mut u8, room: usize) -> Answer;

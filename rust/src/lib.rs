@@ -21,6 +21,12 @@
 //!
 //! // A number that nobody declared as a date is only taken for one where that is likely.
 //! assert_eq!(Date::from_binary_heuristic(1444), Err(Refusal::NotNumber));
+//!
+//! // Where only the ISO text was kept, it is read back. `parse` reads no ISO text.
+//! let kept = start.iso_8601();
+//! assert_eq!(kept, "1444-11-11");
+//! assert_eq!(Date::from_iso_8601(kept.as_bytes()), Ok(start));
+//! assert_eq!(Date::parse(kept.as_bytes()), Err(Refusal::NotText));
 //! # Ok::<(), Refusal>(())
 //! ```
 //!

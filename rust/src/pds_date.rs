@@ -76,7 +76,8 @@ pub trait PdsDate: Copy + Sized {
         whole(ffi::pq_write_dotted, self)
     }
 
-    /// The ISO text. The sign of a year counts among its four places.
+    /// The ISO text. The sign of a year counts among its four places. Each kind's `from_iso_8601` reads it back as the
+    /// same date, but for an odd hour component of kind E, which comes back as the even one below it.
     ///
     /// ```
     /// use pennyquill::{Date, DateHour, Eu5Date, PdsDate, Vic3Date};

@@ -44,7 +44,23 @@ impl RawDate {
     /// assert_eq!(RawDate::parse("0000000001444.1.1"), Err(Refusal::TextTooLong));
     /// ```
     pub fn parse<T: AsRef<[u8]>>(text: T) -> Result<Self, Refusal> {
-        let bits = bits::read(Self::KIND, text.as_ref())?;
+        let bits = bits::read(ffi::pq_read_text, Self::KIND, text.as_ref())?;
+        Ok(RawDate { bits })
+    }
+
+    /// The date of an ISO text, as [`iso_8601`](PdsDate::iso_8601) writes it and in no other spelling, with an hour or
+    /// without one. Refusal 1 for a text over 16 bytes, 2 for any other that is no date's. Not in jomini.
+    ///
+    /// ```
+    /// use pennyquill::{RawDate, Refusal};
+    /// assert_eq!(RawDate::from_iso_8601("1444-02-31"), RawDate::parse("1444.2.31"));
+    /// assert_eq!(RawDate::from_iso_8601("1444-02-31T00"), RawDate::parse("1444.2.31.1"));
+    /// assert_eq!(RawDate::from_iso_8601("1444-02-31T23"), RawDate::parse("1444.2.31.24"));
+    /// assert_eq!(RawDate::from_iso_8601("1444-02-31T24"), Err(Refusal::NotText));
+    /// assert_eq!(RawDate::from_iso_8601("1444-02-31T23:00Z"), Err(Refusal::TextTooLong));
+    /// ```
+    pub fn from_iso_8601<T: AsRef<[u8]>>(text: T) -> Result<Self, Refusal> {
+        let bits = bits::read(ffi::pq_read_iso, Self::KIND, text.as_ref())?;
         Ok(RawDate { bits })
     }
 

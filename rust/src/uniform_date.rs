@@ -1,6 +1,7 @@
 //! Kind U.
 
 use crate::bits;
+use crate::ffi;
 use crate::pds_date::{PdsDate, pds_date};
 use crate::refusal::Refusal;
 
@@ -39,7 +40,21 @@ impl UniformDate {
     /// assert_eq!(UniformDate::parse("720"), Err(Refusal::NotText)); // 31 January
     /// ```
     pub fn parse<T: AsRef<[u8]>>(text: T) -> Result<Self, Refusal> {
-        let bits = bits::read(Self::KIND, text.as_ref())?;
+        let bits = bits::read(ffi::pq_read_text, Self::KIND, text.as_ref())?;
+        Ok(UniformDate { bits })
+    }
+
+    /// The date of an ISO text, as [`iso_8601`](PdsDate::iso_8601) writes it and in no other spelling; one with an hour
+    /// is none of U's. Refusal 1 for a text over 16 bytes, 2 for any other that is no date's. Not in jomini.
+    ///
+    /// ```
+    /// use pennyquill::{Refusal, UniformDate};
+    /// assert_eq!(UniformDate::from_iso_8601("2200-02-30"), UniformDate::parse("2200.02.30"));
+    /// assert_eq!(UniformDate::from_iso_8601("2200-01-31"), Err(Refusal::NotText));
+    /// assert_eq!(UniformDate::from_iso_8601("2200-02-30T00"), Err(Refusal::NotText));
+    /// ```
+    pub fn from_iso_8601<T: AsRef<[u8]>>(text: T) -> Result<Self, Refusal> {
+        let bits = bits::read(ffi::pq_read_iso, Self::KIND, text.as_ref())?;
         Ok(UniformDate { bits })
     }
 }

@@ -42,7 +42,22 @@ impl Vic3Date {
     /// assert_eq!(Vic3Date::parse("43808760"), Err(Refusal::NotText));
     /// ```
     pub fn parse<T: AsRef<[u8]>>(text: T) -> Result<Self, Refusal> {
-        let bits = bits::read(Self::KIND, text.as_ref())?;
+        let bits = bits::read(ffi::pq_read_text, Self::KIND, text.as_ref())?;
+        Ok(Vic3Date { bits })
+    }
+
+    /// The date of an ISO text, as [`iso_8601`](PdsDate::iso_8601) writes it and in no other spelling: always with an
+    /// hour. Refusal 1 for a text over 16 bytes, 2 for any other that is no date's. Not in jomini.
+    ///
+    /// ```
+    /// use pennyquill::{Refusal, Vic3Date};
+    /// assert_eq!(Vic3Date::from_iso_8601("1836-02-03T06"), Vic3Date::parse("1836.2.3.6"));
+    /// assert_eq!(Vic3Date::from_iso_8601("1836-02-03T00"), Vic3Date::parse("1836.2.3"));
+    /// assert_eq!(Vic3Date::from_iso_8601("1836-02-03T07"), Err(Refusal::NotText));
+    /// assert_eq!(Vic3Date::from_iso_8601("1836-02-03"), Err(Refusal::NotText));
+    /// ```
+    pub fn from_iso_8601<T: AsRef<[u8]>>(text: T) -> Result<Self, Refusal> {
+        let bits = bits::read(ffi::pq_read_iso, Self::KIND, text.as_ref())?;
         Ok(Vic3Date { bits })
     }
 

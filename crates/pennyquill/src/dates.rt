@@ -1,9 +1,10 @@
-// Dates read: from a text, from a number by the full decoder or by the guess, and from fields.
+// Dates read: from a text, from an ISO text, from a number by the full decoder or by the guess, and from fields.
 ghost use mathlib.Core.Path.{_≡_};
 ghost use Rattle.rules.specs.Refusals.{notOfKind};
 ghost use Rattle.rules.specs.Kinds.{fromFields};
 ghost use Rattle.rules.specs.Numbers.{readNumber, guessNumber};
 ghost use Rattle.rules.specs.Text.{readText};
+ghost use Rattle.requests.specs.IsoReader.{readIso};
 ghost use Rattle.kinds.specs.Views.{madeAs};
 ghost use Rattle.number.specs.Views.{readAs, guessedAs};
 ghost use Rattle.by_kind.specs.Views.{parsedAs};
@@ -36,6 +37,16 @@ pub extern "C" fn pq_read_text(kind: u32, text: &[u8]) -> PqAnswer
         return crossing::not_of_kind();
     };
     text_crossed(by_kind::parse(kind, text))
+}
+
+#[no_mangle]
+pub extern "C" fn pq_read_iso(kind: u32, text: &[u8]) -> PqAnswer
+    ensures { λ r. ⌜ r ≡ dateCrossed (ofKindGiven kind (λ k. readIso k (now (text .entry)))) ⌝ }
+{
+    let Coded::Kind(kind) = codes::kind_of_code(kind) else {
+        return crossing::not_of_kind();
+    };
+    text_crossed(by_kind::parse_iso(kind, text))
 }
 
 // ---- from a number

@@ -22,6 +22,14 @@ impl Row {
         }
     }
 
+    /// A question that the second reading answers.
+    pub fn unanswered(question: String) -> Self {
+        Row {
+            question_length: question.len(),
+            text: question,
+        }
+    }
+
     fn question(&self) -> &str {
         &self.text[..self.question_length]
     }
@@ -54,19 +62,25 @@ impl Answers {
     /// Writes the rows to `NAME.txt`, and their questions alone, in the same order, to `NAME.questions`. Gives the
     /// number of rows in the two parts.
     pub fn write(&self, folder: &Path, name: &str) -> (usize, usize) {
-        let samples: Vec<&Row> = self.samples.difference(&self.edges).collect();
-        let (mut rows, mut questions) = (String::new(), String::new());
-        for row in self.edges.iter().chain(samples.iter().copied()) {
-            rows.push_str(&row.text);
-            rows.push('\n');
-            questions.push_str(row.question());
-            questions.push('\n');
-        }
-        for (ending, text) in [("txt", rows), ("questions", questions)] {
-            fs::write(folder.join(format!("{name}.{ending}")), text)
-                .expect("the file can be written");
-        }
-        (self.edges.len(), samples.len())
+        self.write_lines(&folder.join(format!("{name}.txt")), |row| &row.text);
+        self.write_questions(folder, name)
+    }
+
+    /// Writes the questions alone.
+    pub fn write_questions(&self, folder: &Path, name: &str) -> (usize, usize) {
+        self.write_lines(&folder.join(format!("{name}.questions")), Row::question);
+        (self.edges.len(), self.other_samples().count())
+    }
+
+    fn write_lines(&self, file: &Path, line: impl Fn(&Row) -> &str) {
+        let rows = self.edges.iter().chain(self.other_samples());
+        let lines: String = rows.flat_map(|row| [line(row), "\n"]).collect();
+        fs::write(file, lines).expect("the file can be written");
+    }
+
+    /// The samples that are no edges.
+    fn other_samples(&self) -> impl Iterator<Item = &Row> {
+        self.samples.difference(&self.edges)
     }
 }
 

@@ -13,6 +13,7 @@ mod dates;
 mod differences;
 mod digits;
 mod fields;
+mod iso_texts;
 mod julian;
 mod leading;
 mod listing_lines;
@@ -53,6 +54,7 @@ const FILES: [(&str, fn(&mut Answers)); 12] = [
 const LISTINGS_STREAM: u64 = FILES.len() as u64;
 const BOOK_STREAM: u64 = LISTINGS_STREAM + 1;
 const TABLE_STREAM: u64 = BOOK_STREAM + 1;
+const ISO_STREAM: u64 = TABLE_STREAM + 1;
 
 fn main() {
     let folder = std::env::args_os().nth(1).expect("usage: generate FOLDER");
@@ -69,4 +71,8 @@ fn main() {
     let script = book_scenes::all(BOOK_STREAM) + &table_scenes::all(TABLE_STREAM);
     fs::write(folder.join("book.script"), &script).expect("the file can be written");
     println!("book.script: {} lines", script.lines().count());
+    let mut isos = Answers::new(ISO_STREAM);
+    iso_texts::ask(&mut isos);
+    let (edges, samples) = isos.write_questions(folder, "isos");
+    println!("isos.questions: {edges} edges, {samples} samples");
 }

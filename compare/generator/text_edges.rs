@@ -63,7 +63,7 @@ const YEARS: &str = "
 const HOURS: &str = "
     0 00 01 06 1 2 5 6 7 8 9 10 11 12 13 17 18 19 20 21 22 24 25 26 30 31 32 33 64 99";
 
-fn words(list: &'static str) -> impl Iterator<Item = &'static str> {
+pub fn words(list: &'static str) -> impl Iterator<Item = &'static str> {
     list.split_whitespace()
 }
 
@@ -133,7 +133,7 @@ fn add_odd_bytes(texts: &mut BTreeSet<Vec<u8>>) {
     }
 }
 
-fn with_byte(base: &str, place: usize, byte: u8) -> Vec<u8> {
+pub fn with_byte(base: &str, place: usize, byte: u8) -> Vec<u8> {
     let mut text = base.as_bytes().to_vec();
     text[place] = byte;
     text

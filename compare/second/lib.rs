@@ -2,6 +2,7 @@
 
 pub mod book;
 pub mod exchange;
+pub mod iso;
 pub mod kinds;
 pub mod listing;
 pub mod table;

@@ -11,7 +11,7 @@ use vic3save::Vic3Date;
 const LONGEST_INPUT: usize = 65_535;
 
 /// Refusal 1: "text over 16 bytes".
-const LONGEST_TEXT: usize = 16;
+pub const LONGEST_TEXT: usize = 16;
 
 /// "dotted text, ISO text", or the number of the refusal.
 type Answer = Result<String, u8>;

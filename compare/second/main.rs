@@ -6,10 +6,12 @@
 //!                                          the page or the original says of the same
 //!     second listing < input               what `datelist` writes for the input
 //!     second book < script                 the answers of book operations and table operations
+//!     second isos < questions              the ISO texts of the questions with what is read
 
 mod agreement;
 mod book;
 mod exchange;
+mod iso;
 mod kinds;
 mod listing;
 mod page;
@@ -30,7 +32,8 @@ fn main() {
         }
         "listing" => listing::output(&input()),
         "book" => script::run(&input_text()).into_bytes(),
-        _ => panic!("usage: second exchanges | constants | example | listing | book"),
+        "isos" => iso::rows(&input_text()).into_bytes(),
+        _ => panic!("usage: second exchanges | constants | example | listing | book | isos"),
     };
     io::stdout()
         .write_all(&output)

@@ -1,8 +1,8 @@
-//! What document 01 itself shows, and request #101, held against this reading.
+//! What document 01 itself shows, and what requests #101 and #102 do, held against this reading.
 
 use crate::book::{self, Record};
 use crate::kinds::{Fields, Kind};
-use crate::{exchange, listing, table};
+use crate::{exchange, iso, listing, table};
 
 const EXAMPLE_INPUT: &str = "\
 D t 1444.11.11
@@ -26,6 +26,57 @@ D refused 2
 D -5001.1.1 -5001-01-01
 ";
 
+/// ISO texts of document 01's example and of request #102, each with its kind and what is read.
+const READ: [(Kind, &str, &str); 20] = [
+    (Kind::D, "1444-11-11", "1444 11 11 0"),
+    (Kind::E, "1444-11-11T19", "1444 11 11 22"),
+    (Kind::V, "0001-01-01T00", "1 1 1 0"),
+    (Kind::H, "0001-01-01T00", "1 1 1 1"),
+    (Kind::U, "1444-02-30", "1444 2 30 0"),
+    (Kind::D, "-5001-01-01", "-5001 1 1 0"),
+    (Kind::R, "1444-11-11", "1444 11 11 0"),
+    (Kind::R, "1444-11-11T00", "1444 11 11 1"),
+    (Kind::R, "1444-11-11T23", "1444 11 11 24"),
+    (Kind::H, "1444-11-11T23", "1444 11 11 24"),
+    (Kind::V, "1444-11-11T18", "1444 11 11 18"),
+    (Kind::E, "1444-11-11T08", "1444 11 11 0"),
+    (Kind::E, "1444-11-11T09", "1444 11 11 2"),
+    (Kind::D, "-005-01-01", "-5 1 1 0"),
+    (Kind::D, "0000-01-01", "0 1 1 0"),
+    (Kind::D, "10000-01-01", "10000 1 1 0"),
+    (Kind::D, "32767-01-01", "32767 1 1 0"),
+    (Kind::D, "-999-01-01", "-999 1 1 0"),
+    (Kind::D, "-1000-01-01", "-1000 1 1 0"),
+    (Kind::D, "-32768-01-01", "-32768 1 1 0"),
+];
+
+/// Texts that are no ISO text of the kind: 2. "H, V and E demand the hour; D and U refuse one."
+const NOT_READ: [(Kind, &str); 23] = [
+    (Kind::H, "1444-11-11"),
+    (Kind::V, "1444-11-11"),
+    (Kind::E, "1444-11-11"),
+    (Kind::D, "1444-11-11T00"),
+    (Kind::U, "1444-11-11T00"),
+    (Kind::V, "1444-11-11T07"),
+    (Kind::E, "1444-11-11T07"),
+    (Kind::E, "1444-11-11T20"),
+    (Kind::H, "1444-11-11T24"),
+    (Kind::R, "1444-11-11T24"),
+    (Kind::D, "-5-01-01"),
+    (Kind::D, "-0005-01-01"),
+    (Kind::D, "+005-01-01"),
+    (Kind::D, "0005-1-1"),
+    (Kind::D, "00005-01-01"),
+    (Kind::D, "-000-01-01"),
+    (Kind::D, "-0999-01-01"),
+    (Kind::D, "010000-01-01"),
+    (Kind::D, "-01000-01-01"),
+    (Kind::D, "32768-01-01"),
+    (Kind::D, "-32769-01-01"),
+    (Kind::D, "1444.11.11"),
+    (Kind::D, "1444-11-11Z"),
+];
+
 /// The input of the page's example, once every example of the page is met.
 pub fn example() -> &'static str {
     let output = listing::output(EXAMPLE_INPUT.as_bytes());
@@ -33,6 +84,7 @@ pub fn example() -> &'static str {
     try_years_before_0();
     try_small_book();
     try_small_table();
+    try_iso_texts();
     EXAMPLE_INPUT
 }
 
@@ -76,4 +128,30 @@ fn try_small_table() {
     assert_eq!(table::remove(&mut buffer, 3), Ok(1));
     assert_eq!(buffer[..8], bytes);
     assert_eq!(buffer[8..], [0x00, 0x00, 0x00, 0xFF]);
+}
+
+/// "Read the ISO text of all six kinds, only in the spelling that document 01 writes." "E comes back
+/// with the even component of that in-game hour, so component 3 comes back as 2." A text over 16
+/// bytes is 1, whatever else it is.
+fn try_iso_texts() {
+    for (kind, text, date) in READ {
+        let read = iso::read(kind, text.as_bytes());
+        let read = read.map(|date| date.to_string());
+        assert_eq!(read.as_deref(), Ok(date), "{} {text}", kind.letter());
+    }
+    for (kind, text) in NOT_READ {
+        let is_refused = iso::read(kind, text.as_bytes()) == Err(2);
+        assert!(is_refused, "{} {text}", kind.letter());
+    }
+    let date = Fields {
+        year: 1444,
+        month: 11,
+        day: 11,
+        hour: 3,
+    };
+    let text = exchange::iso_text(Kind::E, date);
+    assert_eq!(text, "1444-11-11T09");
+    assert!(iso::read(Kind::E, text.as_bytes()) == Ok(Fields { hour: 2, ..date }));
+    assert!(iso::read(Kind::D, b"0000000-01-01-01") == Err(2));
+    assert!(iso::read(Kind::D, b"00000000-01-01-01") == Err(1));
 }

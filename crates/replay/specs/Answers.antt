@@ -9,6 +9,7 @@ use Rattle.rules.specs.Kinds.{Kind, Fields, Stored, fromFields, stored, store, 
 use Rattle.rules.specs.Numbers.{readsNumbers, readNumber, guesses, guessNumber, writesNumbers, writeNumber}
 use Rattle.rules.specs.Days.{countsDays, addDays, difference, Order, Before, Same, After, order}
 use Rattle.rules.specs.Text.{readText}
+use Rattle.requests.specs.IsoReader.{readIso}
 use Rattle.kinds.specs.declared.Packed.{Packed}
 use Rattle.kinds.specs.Views.{bitsOf}
 use Rattle.replay.specs.declared.answers.Told.{Told}
@@ -41,6 +42,9 @@ had false a = Gives Unasked
 
 abbrev pub textAnswer : Kind → List ℕ → Answer Value
 textAnswer k s = dated (store (readText k s))
+
+abbrev pub isoAnswer : Kind → List ℕ → Answer Value
+isoAnswer k s = dated (store (readIso k s))
 
 abbrev pub numberAnswer : Kind → ℤ → Answer Value
 numberAnswer k n = had (readsNumbers k) (dated (store (readNumber k n)))

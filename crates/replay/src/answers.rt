@@ -2,7 +2,8 @@
 ghost use mathlib.Core.Path.{_≡_};
 ghost use Rattle.rules.specs.Refusals.{Gives};
 ghost use Rattle.kinds.specs.Views.{kindOf, fieldsOf, bitsOf};
-ghost use Rattle.replay.specs.Answers.{Dated, toldAs, textAnswer, numberAnswer, guessAnswer, fieldsAnswer, leastAnswer, greatestAnswer};
+ghost use Rattle.by_kind.specs.Views.{parsedAs};
+ghost use Rattle.replay.specs.Answers.{Dated, toldAs, dated, textAnswer, isoAnswer, numberAnswer, guessAnswer, fieldsAnswer, leastAnswer, greatestAnswer};
 use by_kind::Parsed;
 use date::Date;
 use date_hour::DateHour;
@@ -28,15 +29,26 @@ pub(crate) fn date(raw: Packed) -> Told
     Told::Date(raw)
 }
 
-pub(crate) fn text(kind: Kind, text: &[u8]) -> Told
-    ensures { λ r. ⌜ toldAs r ≡ textAnswer (kindOf kind) (now (text .entry)) ⌝ }
+fn parsed(read: Parsed) -> Told
+    ensures { λ r. ⌜ toldAs r ≡ dated (parsedAs read) ⌝ }
 {
-    let read = by_kind::parse(kind, text);
     match read {
         Parsed::Date(raw) => Told::Date(raw),
         Parsed::TooLong => Told::Refused(refusals::TOO_LONG),
         Parsed::NotText => Told::Refused(refusals::NOT_TEXT),
     }
+}
+
+pub(crate) fn text(kind: Kind, text: &[u8]) -> Told
+    ensures { λ r. ⌜ toldAs r ≡ textAnswer (kindOf kind) (now (text .entry)) ⌝ }
+{
+    parsed(by_kind::parse(kind, text))
+}
+
+pub(crate) fn iso(kind: Kind, text: &[u8]) -> Told
+    ensures { λ r. ⌜ toldAs r ≡ isoAnswer (kindOf kind) (now (text .entry)) ⌝ }
+{
+    parsed(by_kind::parse_iso(kind, text))
 }
 
 pub(crate) fn number(kind: Kind, n: i32) -> Told

@@ -13,6 +13,7 @@ use kinds::Kind;
 pub(crate) fn of_kind(row: &[u8], kind: Kind) -> Told {
     match rows::byte(row, 2) {
         b't' => text(row, kind),
+        b'i' => iso(row, kind),
         b'b' => number(row, kind),
         b'g' => guess_or_greatest(row, kind),
         b'f' => fields(row, kind),
@@ -31,6 +32,16 @@ fn text(row: &[u8], kind: Kind) -> Told {
     let length = quoted.length;
     if rows::ends(row, quoted.next) {
         return answers::text(kind, &buffer[..length]);
+    }
+    Told::Unasked
+}
+
+fn iso(row: &[u8], kind: Kind) -> Told {
+    let mut buffer = [0u8; 64];
+    let quoted = quoted::text(row, rows::after_word(row, 1, b" i "), &mut buffer);
+    let length = quoted.length;
+    if rows::ends(row, quoted.next) {
+        return answers::iso(kind, &buffer[..length]);
     }
     Told::Unasked
 }

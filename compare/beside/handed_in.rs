@@ -198,6 +198,9 @@ fn codes() -> Tally {
         for text in [b"1444.11.11".as_slice(), b"", b"00000000001444.11.11"] {
             tally.hold(refused(4), port::read(kind, text), asked);
         }
+        for text in [b"1444-11-11".as_slice(), b"", b"1444-11-11T00:00:00"] {
+            tally.hold(refused(4), port::read_iso(kind, text), asked);
+        }
     }
     tally
 }

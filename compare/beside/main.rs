@@ -17,6 +17,7 @@ mod drawn;
 mod fields;
 mod generated;
 mod handed_in;
+mod iso_texts;
 mod leaves;
 mod lines;
 mod numbers;
@@ -37,7 +38,7 @@ use std::process::ExitCode;
 type Subject = fn(Extent, &mut Report);
 
 /// What takes longest comes last.
-const SUBJECTS: [(&str, Subject); 11] = [
+const SUBJECTS: [(&str, Subject); 12] = [
     ("numbers", numbers::run),
     ("fields", fields::run),
     ("texts", texts::run),
@@ -47,6 +48,7 @@ const SUBJECTS: [(&str, Subject); 11] = [
     ("books", books::run),
     ("tables", tables::run),
     ("lines", lines::run),
+    ("iso", iso_texts::run),
     ("spellings", spellings::run),
     ("days", days::run),
 ];

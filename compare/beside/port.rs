@@ -11,6 +11,12 @@ pub fn read(kind: u32, text: &[u8]) -> Answer {
 }
 
 #[inline]
+pub fn read_iso(kind: u32, text: &[u8]) -> Answer {
+    // SAFETY: as above.
+    unsafe { ffi::pq_read_iso(kind, text.as_ptr(), text.len()) }
+}
+
+#[inline]
 pub fn write(writer: Writer, kind: u32, date: u32, out: &mut [u8]) -> Answer {
     // SAFETY: the pointer and the length are those of a slice that is ours alone.
     unsafe { writer(kind, date, out.as_mut_ptr(), out.len()) }

@@ -13,7 +13,7 @@ use std::fmt::{self, Write};
 const QUICK_STEP: i16 = 211;
 
 /// No text is as long as this, and none has this byte.
-const ROOM: usize = 20;
+pub const ROOM: usize = 20;
 const FILL: u8 = 0xA5;
 
 pub fn run(extent: Extent, report: &mut Report) {
@@ -22,7 +22,7 @@ pub fn run(extent: Extent, report: &mut Report) {
 }
 
 /// Goes through the dates of a kind.
-fn each_date<K: Coded>(extent: Extent, ask: impl Fn(&mut Tally, K) + Sync) -> Tally {
+pub fn each_date<K: Coded>(extent: Extent, ask: impl Fn(&mut Tally, K) + Sync) -> Tally {
     let (years, days) = (years(extent, QUICK_STEP), days::<K>());
     share(years.len() as u64, |part, tally| {
         let year = years[part as usize];

@@ -1,6 +1,7 @@
 //! Texts by the six readers: every text over small alphabets, all digits in D's fast shapes, each byte
 //! of valid texts replaced by every other, and texts over 16 bytes.
 
+use crate::drawn;
 use crate::original::{Coded, read, refused};
 use crate::port;
 use crate::random::Random;
@@ -23,17 +24,17 @@ pub const LONGEST: usize = 16;
 pub fn run(extent: Extent, report: &mut Report) {
     let most = extent.pick(5, 6);
     let name = format!("texts of 0 to {most} bytes over 16 telling ones, six kinds");
-    report.row(&name, Covers::All, over(TELLING, 0..=most));
+    report.row(&name, Covers::All, over(TELLING, 0..=most, ask_all));
     let most = extent.pick(8, 10);
     let name = format!("texts of 7 to {most} bytes over `0 1 9 . + -`, six kinds");
-    report.row(&name, Covers::All, over(FEW, 7..=most));
+    report.row(&name, Covers::All, over(FEW, 7..=most, ask_all));
     let step = extent.pick(101, 1);
     let name = "all digits in D's four fast shapes, six kinds";
     report.row(name, extent.covers_all(), shapes(step));
-    let count = extent.pick(3, 40);
-    let (texts, tally) = replaced(count);
-    let name = format!("each byte of {texts} valid texts of 5 to 16 bytes, all 256, six kinds");
-    report.row(&name, Covers::All, tally);
+    let texts = valid_texts::all(extent.pick(3, 40));
+    let count = texts.len();
+    let name = format!("each byte of {count} valid texts of 5 to 16 bytes, all 256, six kinds");
+    report.row(&name, Covers::All, replaced(&texts, ask_all));
     report.row(
         "texts of 17 to 40 bytes, six kinds",
         Covers::Sample,
@@ -53,8 +54,12 @@ pub fn ask<K: Coded>(tally: &mut Tally, text: &[u8]) -> bool {
     right.refusal == 0
 }
 
-/// Every text of these lengths over the alphabet.
-fn over<const N: usize>(alphabet: &[u8; N], lengths: RangeInclusive<u32>) -> Tally {
+/// Asks every text of these lengths over the alphabet.
+pub fn over<const N: usize>(
+    alphabet: &[u8; N],
+    lengths: RangeInclusive<u32>,
+    ask: impl Fn(&mut Tally, &[u8]) + Sync,
+) -> Tally {
     // A part is a length and the first two letters.
     let firsts = (N * N) as u64;
     let lengths: Vec<u32> = lengths.collect();
@@ -70,7 +75,7 @@ fn over<const N: usize>(alphabet: &[u8; N], lengths: RangeInclusive<u32>) -> Tal
         spell(alphabet, &mut text[..fixed], first);
         for rest in 0..N.pow(length - fixed as u32) {
             spell(alphabet, &mut text[fixed..], rest);
-            ask_all(tally, text);
+            ask(tally, text);
         }
     })
 }
@@ -108,21 +113,19 @@ fn fill(shape: &[u8], text: &mut [u8; LONGEST], mut number: u64) {
     }
 }
 
-/// How many texts there are, each accepted by some kind, and what came of their changes.
-fn replaced(count: usize) -> (usize, Tally) {
-    let texts = valid_texts::all(count);
-    let tally = share(texts.len() as u64, |part, tally| {
+/// Asks each text with each byte replaced by all 256.
+pub fn replaced(texts: &[Vec<u8>], ask: impl Fn(&mut Tally, &[u8]) + Sync) -> Tally {
+    share(texts.len() as u64, |part, tally| {
         let mut text = texts[part as usize].clone();
         for place in 0..text.len() {
             let byte = text[place];
             for other in 0..=255 {
                 text[place] = other;
-                ask_all(tally, &text);
+                ask(tally, &text);
             }
             text[place] = byte;
         }
-    });
-    (texts.len(), tally)
+    })
 }
 
 /// Whatever such a text says, it is 1 here.
@@ -131,7 +134,9 @@ fn long(count: u64) -> Tally {
     share(PARTS, |part, tally| {
         let mut random = Random::new(100 + part);
         for _ in 0..count / PARTS {
-            let text = valid_texts::lengthened(&mut random);
+            let kind = random.pick(&['R', 'D', 'H', 'U', 'E', 'V']);
+            let draft = drawn::text(&mut random, kind);
+            let text = valid_texts::lengthened(&mut random, draft.text());
             for_all_six!(ask_long(tally, &text));
         }
     })

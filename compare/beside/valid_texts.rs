@@ -45,16 +45,14 @@ fn with_zeros(text: &[u8], zeros: usize) -> Vec<u8> {
     [sign, &vec![b'0'; zeros], rest].concat()
 }
 
-/// A text of 17 to 40 bytes, mostly with zeros before the year, else with anything after it.
-pub fn lengthened(random: &mut Random) -> Vec<u8> {
-    let kind = random.pick(&['R', 'D', 'H', 'U', 'E', 'V']);
-    let text = drawn::text(random, kind).text().to_vec();
+/// The text in 17 to 40 bytes, mostly with zeros before the year, else with anything after it.
+pub fn lengthened(random: &mut Random, text: &[u8]) -> Vec<u8> {
     let length = LONGEST + 1 + random.index(24);
     let more = length.saturating_sub(text.len());
     if random.chance(80) {
-        with_zeros(&text, more)
+        with_zeros(text, more)
     } else {
-        let after = (0..more).map(|_| random.byte()).collect();
-        [text, after].concat()
+        let after: Vec<u8> = (0..more).map(|_| random.byte()).collect();
+        [text, &after].concat()
     }
 }

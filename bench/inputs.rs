@@ -50,6 +50,27 @@ pub fn dotted(day: Day) -> String {
     format!("{}.{}.{}", day.year, day.month, day.day)
 }
 
+pub fn dotted_at_noon(day: Day) -> String {
+    format!("{}.12", dotted(day))
+}
+
+/// As U has it.
+pub fn dotted_padded(day: Day) -> String {
+    format!("{}.{:02}.{:02}", day.year, day.month, day.day)
+}
+
+pub fn iso(day: Day) -> String {
+    format!("{:04}-{:02}-{:02}", day.year, day.month, day.day)
+}
+
+/// A day of U for each day: for the 31st of a month its 30th.
+pub fn uniform(day: Day) -> Day {
+    Day {
+        day: day.day.min(30),
+        ..day
+    }
+}
+
 /// The binary numbers of days, at an hour.
 pub fn numbers(hour: i32) -> Vec<i32> {
     let number = |day: Day| Date::from_ymd(day.year, day.month, day.day).to_binary() + hour;

@@ -2,7 +2,8 @@
 
 use crate::bounded;
 use crate::inputs::{
-    Day, all_days, days, declared, dotted, full_book, numbers, questions, steps, table, texts,
+    Day, all_days, days, declared, dotted, dotted_at_noon, dotted_padded, full_book, iso, numbers,
+    questions, steps, table, texts, uniform,
 };
 use crate::measure::{Times, compare};
 use crate::plain_table::{self, Kind};
@@ -25,6 +26,7 @@ pub type Show<'a> = &'a mut dyn FnMut(&str, Times);
 
 pub fn all(show: Show) {
     reading(show);
+    reading_iso(show);
     numbers_read(show);
     writing(show);
     counting(show);
@@ -35,18 +37,17 @@ pub fn all(show: Show) {
 
 fn reading(show: Show) {
     reading_dates(show);
-    let at_noon = || texts(all_days(), |day| format!("{}.12", dotted(day)));
+    let at_noon = || texts(all_days(), dotted_at_noon);
     read(show, "R", R, at_noon(), |text| RawDate::parse(text));
     read(show, "H", H, at_noon(), |text| DateHour::parse(text));
     read(show, "E", E, at_noon(), |text| Eu5Date::parse(text));
     read(show, "V", V, at_noon(), |text| Vic3Date::parse(text));
-    let uniform = |day: Day| format!("{}.{:02}.{:02}", day.year, day.month, day.day.min(30));
-    let uniform = texts(all_days(), uniform);
+    let uniform = texts(all_days(), |day| dotted_padded(uniform(day)));
     read(show, "U", U, uniform, |text| UniformDate::parse(text));
 }
 
-/// D's four fast shapes, a text in none of them, and the text of a number. A closure for each, so that
-/// the compiler may put the original's reader into each loop.
+/// D's four fast shapes, all of them mixed, a text in none of them, and the text of a number. A closure
+/// for each, so that the compiler may put the original's reader into each loop.
 fn reading_dates(show: Show) {
     let is_short = |number: u8| number < 10;
     let shaped = |short_month: bool, short_day: bool| {
@@ -64,6 +65,9 @@ fn reading_dates(show: Show) {
     read(show, "D `YYYY.M.DD`", D, long_day, |text| Date::parse(text));
     let long = shaped(false, false);
     read(show, "D `YYYY.MM.DD`", D, long, |text| Date::parse(text));
+    let mixed = texts(all_days(), dotted);
+    let name = "D in all four shapes";
+    read(show, name, D, mixed, |text| Date::parse(text));
     let plain = texts(all_days(), |day| format!("-{}", dotted(day)));
     let name = "D in no fast shape, `-YYYY.M.D`";
     read(show, name, D, plain, |text| Date::parse(text));
@@ -78,6 +82,46 @@ fn read<A>(show: Show, name: &str, kind: u32, texts: Vec<Vec<u8>>, parse: impl F
     let port = |text: &Vec<u8>| unsafe { ffi::pq_read_text(kind, text.as_ptr(), text.len()) };
     let times = compare(&texts, |text| parse(text), bounded, port);
     show(&format!("read text, {name}"), times);
+}
+
+/// The dates of the dotted texts above; D's are those in all four shapes. The stored hour 12 is written
+/// as T11 by R and H, as T14 by E.
+fn reading_iso(show: Show) {
+    let iso_at = |hour: u8| move |day: Day| format!("{}T{hour:02}", iso(day));
+    let noon = dotted_at_noon;
+    read_iso(show, "D", D, dotted, iso, |text| Date::parse(text));
+    read_iso(show, "R", R, noon, iso_at(11), |text| RawDate::parse(text));
+    read_iso(show, "H", H, noon, iso_at(11), |text| DateHour::parse(text));
+    read_iso(show, "E", E, noon, iso_at(14), |text| Eu5Date::parse(text));
+    read_iso(show, "V", V, noon, iso_at(12), |text| Vic3Date::parse(text));
+    let dotted = |day| dotted_padded(uniform(day));
+    let iso = |day| iso(uniform(day));
+    read_iso(show, "U", U, dotted, iso, |text| UniformDate::parse(text));
+}
+
+/// The original reads no ISO text: here its reader of the same date's dotted text stands for that.
+fn read_iso<A>(
+    show: Show,
+    name: &str,
+    kind: u32,
+    dotted: impl Fn(Day) -> String,
+    iso: impl Fn(Day) -> String,
+    parse: impl Fn(&[u8]) -> A,
+) {
+    type Spelled = (Vec<u8>, Vec<u8>);
+    let (dotted, iso) = (texts(all_days(), dotted), texts(all_days(), iso));
+    let dates: Vec<Spelled> = dotted.into_iter().zip(iso).collect();
+    let original = |(dotted, _): &Spelled| parse(dotted);
+    let bounded = |(dotted, _): &Spelled| bounded::read_text(kind, dotted.as_ptr(), dotted.len());
+    // SAFETY: the pointer and the length are those of a slice.
+    let port = |(_, iso): &Spelled| unsafe { ffi::pq_read_iso(kind, iso.as_ptr(), iso.len()) };
+    for date in &dates {
+        assert_eq!(port(date), bounded(date));
+    }
+    show(
+        &format!("read ISO text, {name}, beside the dotted text ‡"),
+        compare(&dates, original, bounded, port),
+    );
 }
 
 fn numbers_read(show: Show) {
@@ -160,7 +204,7 @@ fn vic3_dates() -> Vec<(Vic3Date, u32)> {
 }
 
 fn eu5_dates() -> Vec<(Eu5Date, u32)> {
-    let date = |day: Day| Eu5Date::parse(format!("{}.12", dotted(day)));
+    let date = |day: Day| Eu5Date::parse(dotted_at_noon(day));
     dates(12, |day| date(day).expect("12 is an hour of E"))
 }
 

@@ -15,7 +15,7 @@ use Rattle.sign.proofs.Bits.{held}
 use Rattle.rules.specs.Words.{sameBytes}
 use Rattle.rules.specs.Refusals.{Answer, Gives, Refused, _then_, demand, given, notText}
 use Rattle.rules.specs.Kinds.{Kind, Fields, Stored, noMark, unpacked, stored, store, handed, settled}
-use Rattle.rules.specs.Text.{Read, leading}
+use Rattle.rules.specs.Text.{Read}
 use Rattle.rules.specs.Spelling.{iso}
 use Rattle.rules.proofs.OnKinds.PackLaws.{unpack-pack, handed-back}
 use Rattle.rules.proofs.OnRefusals.OutcomeLaws.{Outcome, gives, refuses, Dated, outcome-so, outcome-settled}

@@ -1,8 +1,8 @@
 -- A text after its leading number, by the code's tests. Assumes nothing.
-use mathlib.Core.Path.{_≡_, refl, sym, _∙_}
-use mathlib.Core.Bool.{Bool, true, false, _&&_, and-false}
-use mathlib.Core.List.{List, [], _∷_}
-use Prim.Native.Nat.{ℕ, _+_, _≤_, _<_}
+use mathlib.Core.Path.{_≡_}
+use mathlib.Core.Bool.{true, false, and-false}
+use mathlib.Core.List.{List}
+use Prim.Native.Nat.{ℕ, _≤_, _<_}
 use native.Mathlib.Omega.{arith}
 use lib.IntN.{ℤ, pos}
 use lib.Signed.{ltZ, leZ}
@@ -10,10 +10,10 @@ use lib.ListN.{length, drop}
 use Rattle.sign.specs.Halves.{up, dn}
 use Rattle.sign.proofs.Laws.{ints, one-side, lt-false, le-by, le-true}
 use Rattle.rules.specs.Words.{minus, withinZ, fits16, fits32}
-use Rattle.rules.specs.Refusals.{Answer, Gives, Refused, _then_, demand, notText}
+use Rattle.rules.specs.Refusals.{Answer, Gives, Refused, _then_, notText}
 use Rattle.rules.specs.Kinds.{Kind, Fields, Stored, ofKind, made, settled, store}
 use Rattle.rules.specs.Numbers.{numberFields}
-use Rattle.rules.specs.Text.{Read, atEnd, readsNumberTexts, numberText, dottedPart, textFields}
+use Rattle.rules.specs.Text.{readsNumberTexts, numberText, dottedPart, textFields}
 use Rattle.rules.proofs.OnKinds.KindLaws.{left, right}
 use Rattle.rules.proofs.Shared.Rests.{here, past}
 

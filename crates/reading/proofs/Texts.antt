@@ -1,6 +1,6 @@
 -- A whole text, by the steps of each kind's reader: its length, its shape, its leading number, the rest. Assumes nothing.
 use mathlib.Core.Path.{_≡_, refl, sym, ap, _∙_}
-use mathlib.Core.Bool.{Bool, true, false, and-false}
+use mathlib.Core.Bool.{true, false, and-false}
 use mathlib.Core.List.{List, [], _∷_}
 use Prim.Native.Nat.{ℕ, _≤_, _<_, _^_}
 use borrow.Author.Tests.{le-leb}

@@ -9,15 +9,6 @@ use Rattle.iso_reading.proofs.Laws.{own-text, not-refused}
 use Rattle.iso_reading.proofs.is_iso_of.Statement.{statement}
 use Rattle.iso_reading.proofs.is_iso_of.Tie as tie
 
-slice-aggregate-iso-8601 : tie.Need-slice-aggregate-iso-8601
-slice-aggregate-iso-8601 c = search needs
-
-iso-8601-requires : tie.Need-iso-8601-requires
-iso-8601-requires c κs = search needs
-
-enum-known-spelled : tie.Need-enum-known-spelled
-enum-known-spelled c = search needs
-
 array-share-prefix-own : tie.Need-array-share-prefix-own
 array-share-prefix-own c =
     omega (arith, rw (c .before .spelled .given .1) at (c .before .before .before .before .iso-8601 .ensures .1 .1))
@@ -25,15 +16,6 @@ array-share-prefix-own c =
 slice-aggregate-same : tie.Need-slice-aggregate-same
 slice-aggregate-same c =
     simp length-take (omega (arith, rw (c .before .before .spelled .given .1) at (c .before .before .before .before .before .iso-8601 .ensures .1 .1)))
-
-same-requires : tie.Need-same-requires
-same-requires c κs = search needs
-
-enum-told : tie.Need-enum-told
-enum-told c = search needs
-
-enum-told-2 : tie.Need-enum-told-2
-enum-told-2 c = search needs
 
 returns : tie.Need-returns
 returns c =
@@ -51,14 +33,14 @@ pub is-iso-of-spec : {M : Type 1} → statement M
 is-iso-of-spec =
     tie.close
     (tie.spec
-    slice-aggregate-iso-8601
-    iso-8601-requires
-    enum-known-spelled
+    (λ c. search needs)
+    (λ c κs. search needs)
+    (λ c. search needs)
     array-share-prefix-own
     slice-aggregate-same
-    same-requires
-    enum-told
-    enum-told-2
+    (λ c κs. search needs)
+    (λ c. search needs)
+    (λ c. search needs)
     returns
     returns-2
     returns-3)

@@ -10,27 +10,9 @@ use Rattle.iso_reading.proofs.Laws.{no-hour, an-hour}
 use Rattle.iso_reading.proofs.iso_part.Statement.{statement}
 use Rattle.iso_reading.proofs.iso_part.Tie as tie
 
-next-number-requires : tie.Need-next-number-requires
-next-number-requires c κs = search needs
-
-enum-known-month : tie.Need-enum-known-month
-enum-known-month c = search needs
-
-enum-told : tie.Need-enum-told
-enum-told c = search needs
-
 returns : tie.Need-returns
 unfolding isoPart
 returns c = λ y. rw (← (c .before .before .next-number .ensures), c .enum-told .given .1)
-
-next-number-requires-2 : tie.Need-next-number-requires-2
-next-number-requires-2 c κs = search needs
-
-enum-known-day : tie.Need-enum-known-day
-enum-known-day c = search needs
-
-enum-told-2 : tie.Need-enum-told-2
-enum-told-2 c = search needs
 
 returns-2 : tie.Need-returns-2
 unfolding isoPart
@@ -41,15 +23,6 @@ returns-3 : tie.Need-returns-3
 unfolding isoPart
 returns-3 c =
     λ y. rw (← (c .before .before .before .before .before .before .before .before .next-number .ensures), c .before .before .before .before .before .before .month .given .1, ← (c .before .before .before .before .next-number2 .ensures), c .before .before .day .given .1, no-hour (kindOf (c .before .before .before .before .before .before .before .before .before .before .args .kind)) _ _ (c .if1 .taken))
-
-next-number-requires-3 : tie.Need-next-number-requires-3
-next-number-requires-3 c κs = search needs
-
-enum-known-hour : tie.Need-enum-known-hour
-enum-known-hour c = search needs
-
-enum-told-3 : tie.Need-enum-told-3
-enum-told-3 c = search needs
 
 returns-4 : tie.Need-returns-4
 unfolding isoPart
@@ -69,18 +42,18 @@ pub iso-part-spec : {M : Type 1} → statement M
 iso-part-spec =
     tie.close
     (tie.spec
-    next-number-requires
-    enum-known-month
-    enum-told
+    (λ c κs. search needs)
+    (λ c. search needs)
+    (λ c. search needs)
     returns
-    next-number-requires-2
-    enum-known-day
-    enum-told-2
+    (λ c κs. search needs)
+    (λ c. search needs)
+    (λ c. search needs)
     returns-2
     returns-3
-    next-number-requires-3
-    enum-known-hour
-    enum-told-3
+    (λ c κs. search needs)
+    (λ c. search needs)
+    (λ c. search needs)
     returns-4
     named-hour-requires
     returns-5)

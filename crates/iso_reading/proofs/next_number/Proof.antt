@@ -9,14 +9,8 @@ returns : tie.Need-returns
 unfolding oneOrTwo
 returns c = rw (past _ _ (c .if1 .taken))
 
-add-one-or-two : tie.Need-add-one-or-two
-add-one-or-two c = search needs
-
-one-or-two-requires : tie.Need-one-or-two-requires
-one-or-two-requires c κs = search needs
-
 returns-2 : tie.Need-returns-2
 returns-2 c = rw (c .one-or-two .ensures, here _ _ (c .before .if1 .left))
 
 pub next-number-spec : {M : Type 1} → statement M
-next-number-spec = tie.close (tie.spec returns add-one-or-two one-or-two-requires returns-2)
+next-number-spec = tie.close (tie.spec returns (λ c. search needs) (λ c κs. search needs) returns-2)

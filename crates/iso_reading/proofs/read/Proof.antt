@@ -5,47 +5,17 @@ use Rattle.iso_reading.proofs.Steps.{lead-refused, parts-refused, made-
 use Rattle.iso_reading.proofs.read.Statement.{statement}
 use Rattle.iso_reading.proofs.read.Tie as tie
 
-to-i64-t-requires : tie.Need-to-i64-t-requires
-to-i64-t-requires c κs = search needs
-
-enum-known-value : tie.Need-enum-known-value
-enum-known-value c = search needs
-
-enum-told : tie.Need-enum-told
-enum-told c = search needs
-
 returns : tie.Need-returns
 returns c =
     lead-refused (kindOf (c .before .before .before .before .args .kind)) _ (c .before .before .to-i64-t .ensures .0) (c .enum-told .given .1)
-
-iso-part-requires : tie.Need-iso-part-requires
-iso-part-requires c κs = search needs
-
-enum-known-month : tie.Need-enum-known-month
-enum-known-month c = search needs
-
-enum-told-2 : tie.Need-enum-told-2
-enum-told-2 c = search needs
 
 returns-2 : tie.Need-returns-2
 returns-2 c =
     parts-refused (kindOf (c .before .before .before .before .before .before .before .before .args .kind)) _ (c .before .before .before .before .before .before .to-i64-t .ensures .0) (c .before .before .before .before .value .given .1) (c .before .before .iso-part .result) (c .before .before .iso-part .ensures) (c .enum-told2 .given .1)
 
-settle-year-requires : tie.Need-settle-year-requires
-settle-year-requires c κs = search needs
-
-enum-known-date : tie.Need-enum-known-date
-enum-known-date c = search needs
-
-enum-told-3 : tie.Need-enum-told-3
-enum-told-3 c = search needs
-
 returns-3 : tie.Need-returns-3
 returns-3 c =
     made-none (kindOf (c .before .before .before .before .before .before .before .before .before .before .before .before .args .kind)) _ (c .before .before .before .before .before .before .before .before .before .before .to-i64-t .ensures .0) (c .before .before .before .before .before .before .before .before .value .given .1) (c .before .before .before .before .before .before .iso-part .result) (c .before .before .before .before .before .before .iso-part .ensures) (c .before .before .before .before .month .given .1) (c .before .before .before .before .before .before .before .known-told .given .0 .1) (c .before .before .settle-year .result) (c .before .before .settle-year .ensures) (c .enum-told3 .given .1)
-
-is-iso-of-requires : tie.Need-is-iso-of-requires
-is-iso-of-requires c κs = search needs
 
 returns-4 : tie.Need-returns-4
 returns-4 c =
@@ -59,18 +29,18 @@ pub read-spec : {M : Type 1} → statement M
 read-spec =
     tie.close
     (tie.spec
-    to-i64-t-requires
-    enum-known-value
-    enum-told
+    (λ c κs. search needs)
+    (λ c. search needs)
+    (λ c. search needs)
     returns
-    iso-part-requires
-    enum-known-month
-    enum-told-2
+    (λ c κs. search needs)
+    (λ c. search needs)
+    (λ c. search needs)
     returns-2
-    settle-year-requires
-    enum-known-date
-    enum-told-3
+    (λ c κs. search needs)
+    (λ c. search needs)
+    (λ c. search needs)
     returns-3
-    is-iso-of-requires
+    (λ c κs. search needs)
     returns-4
     returns-5)

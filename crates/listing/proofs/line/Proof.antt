@@ -3,7 +3,6 @@ use native.Mathlib.Omega.{arith}
 use Prim.Native.Nat.{zero-le}
 use borrow.Author.Needs.{needs}
 use denote.Ref.{now}
-use lib.ListN.{length}
 use Rattle.rules.specs.Listing.{lineOutput}
 use Rattle.rules.proofs.OnSpelling.WriteLaws.{wrote, wrote-whole, wrote-short}
 use Rattle.formatter.proofs.Texts.{taken}

@@ -8,21 +8,9 @@ use Rattle.reading.proofs.Laws.{dotted-none, dotted-some}
 use Rattle.reading.proofs.dotted_text.Statement.{statement}
 use Rattle.reading.proofs.dotted_text.Tie as tie
 
-dotted-part-requires : tie.Need-dotted-part-requires
-dotted-part-requires c κs = search needs
-
-enum-known-month : tie.Need-enum-known-month
-enum-known-month c = search needs
-
-enum-told : tie.Need-enum-told
-enum-told c = search needs
-
 returns : tie.Need-returns
 returns c =
     rw (dotted-none (kindOf (c .before .before .before .before .args .kind)) (c .before .before .before .before .args .value) _ (sym (c .before .before .dotted-part .ensures (c .before .before .before .before .args .value)) ∙ ap (partsAs (c .before .before .before .before .args .value)) (c .enum-told .given .1)))
-
-settle-year-requires : tie.Need-settle-year-requires
-settle-year-requires c κs = search needs
 
 returns-2 : tie.Need-returns-2
 returns-2 c =
@@ -32,9 +20,9 @@ pub dotted-text-spec : {M : Type 1} → statement M
 dotted-text-spec =
     tie.close
     (tie.spec
-    dotted-part-requires
-    enum-known-month
-    enum-told
+    (λ c κs. search needs)
+    (λ c. search needs)
+    (λ c. search needs)
     returns
-    settle-year-requires
+    (λ c κs. search needs)
     returns-2)

@@ -22,13 +22,10 @@ narrow16-requires : tie.Need-narrow16-requires
 narrow16-requires c κs =
     let e = toZ-ofZ (c .before .before .fits .year) in rw e (in-range (c .before .before .args .year) 32768 32767 (rw e at (c .before .if1 .left)) (rw e at (c .if2 .left)))
 
-settle-requires : tie.Need-settle-requires
-settle-requires c κs = search needs
-
 returns-3 : tie.Need-returns-3
 returns-3 c =
     let year : _ ≡ c .before .before .before .before .args .year = held w16 {z = c .before .narrow16 .result} (c .before .narrow16 .ok) ∙ (c .before .narrow16 .ensures ∙ toZ-ofZ (c .before .before .before .before .fits .year)) in rw year at (c .settle .ensures notText)
 
 pub settle-year-spec : {M : Type 1} → statement M
 settle-year-spec =
-    tie.close (tie.spec returns returns-2 narrow16-requires settle-requires returns-3)
+    tie.close (tie.spec returns returns-2 narrow16-requires (λ c κs. search needs) returns-3)

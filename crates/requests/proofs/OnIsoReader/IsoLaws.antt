@@ -2,7 +2,7 @@
 -- with 1, and with 2. Each is one statement over the kinds. Assumes nothing.
 use mathlib.Core.Path.{_≡_, refl, sym, ap, _∙_, subst}
 use mathlib.Core.Logic.{_↔_}
-use mathlib.Core.Bool.{Bool, true, false, cond, not, _&&_}
+use mathlib.Core.Bool.{Bool, true, false, cond, not}
 use mathlib.Core.List.{List, [], _∷_, _++_, append-assoc, append-nil}
 use Prim.Native.Nat.{ℕ, _+_, _-_, _*_, _/_, _%_, _≤_, _<_}
 use native.Mathlib.Omega.{arith}
@@ -18,7 +18,7 @@ use Rattle.rules.proofs.OnSpelling.DigitLaws.{read-filled}
 use Rattle.rules.proofs.OnSpelling.FilledLaws.{lead-iso}
 use Rattle.rules.proofs.OnSpelling.LengthLaws.{text-lengths}
 use Rattle.rules.proofs.OnWords.SameLaws.{same-itself}
-use Rattle.rules.proofs.OnKinds.KindLaws.{left, right, high, yes-within, fit, fit-back}
+use Rattle.rules.proofs.OnKinds.KindLaws.{left, right, high, yes-within, fit, with-hour}
 use Rattle.rules.proofs.OnDays.OrderLaws.{day-small, hour-small}
 use Rattle.rules.proofs.OnText.TextBack.{date-settled}
 use Rattle.rules.proofs.OnRefusals.OutcomeLaws.{Outcome, gives, refuses, outcome-value, outcome-refusal}
@@ -149,15 +149,7 @@ hour-evened kV h e = (e, refl)
 pub iso-back : (k : Kind) (f : Fields) → ofKind k f ≡ true → readIso k (iso k f) ≡ Gives (isoBack k f)
 unfolding isoBack iso isoDate isoMonthDay comesBack
 iso-back k f p =
-    let t = fit k f p in let h = hour-evened k (f .hour) (t .hour-fits) in
-    let date : ofKind k (isoBack k f) ≡ true = fit-back k (isoBack k f) (record {
-      year-low = t .year-low;
-      year-high = t .year-high;
-      month-low = t .month-low;
-      month-high = t .month-high;
-      day-low = t .day-low;
-      day-high = t .day-high;
-      hour-fits = h .0;
-    }) in
+    let h = hour-evened k (f .hour) (fit k f p .hour-fits) in
+    let date : ofKind k (isoBack k f) ≡ true = with-hour k f (evened k (f .hour)) p (h .0) in
     let text : iso k f ≡ iso k (isoBack k f) = ap (λ (l : List ℕ). isoDate f ++ l) (sym (hour-same k (f .hour))) in
     iso-law k (iso k f) (isoBack k f) .1 (rw (date, h .1), text)

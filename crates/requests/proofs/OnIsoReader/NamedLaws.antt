@@ -1,20 +1,19 @@
 -- What the ISO reader gives is named by the text, and what it refuses, it refuses with 2. Assumes nothing.
-use mathlib.Core.Path.{_≡_, refl, sym}
-use mathlib.Core.Bool.{Bool, true, false, cond, _&&_}
+use mathlib.Core.Path.{_≡_, refl}
+use mathlib.Core.Bool.{Bool, true, false, cond}
 use mathlib.Core.List.{List, [], _∷_}
-use Prim.Native.Nat.{ℕ, _+_, _-_, _*_, _%_, _<_}
+use Prim.Native.Nat.{ℕ, _-_, _*_, _%_}
 use native.Mathlib.Omega.{arith}
 use borrow.Author.Tests.{eq-eqb}
 use lib.Dec.{eqb}
 use lib.IntN.{ℤ}
 use lib.ListN.{drop}
 use Rattle.rules.specs.Words.{sameBytes}
-use Rattle.rules.specs.Refusals.{Gives, demand, notText}
+use Rattle.rules.specs.Refusals.{notText}
 use Rattle.rules.specs.Kinds.{Kind, kR, kD, kH, kU, kE, kV, Fields, withHour, ofKind, settledHour, made, settled}
-use Rattle.rules.specs.Text.{leading, oneOrTwo, secondDigit, isDigit, digitValue}
 use Rattle.rules.specs.Spelling.{iso}
 use Rattle.rules.proofs.OnWords.SameLaws.{same-true}
-use Rattle.rules.proofs.OnRefusals.OutcomeLaws.{Outcome, gives, refuses, outcome-if, outcome-then, outcome-next, outcome-digits, outcome-leading}
+use Rattle.rules.proofs.OnRefusals.OutcomeLaws.{Outcome, gives, outcome-if, outcome-then, outcome-next, outcome-digits, outcome-leading}
 use Rattle.requests.specs.IsoReader.{evenHour, comesBack, Names, namedHour, isoHourAfter, isoPart, spelledSo, named}
 
 -- ---- the hour that a text names is one that comes back

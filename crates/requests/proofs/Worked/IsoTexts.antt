@@ -1,12 +1,11 @@
 -- Worked cases of #102, each list one theorem by computation: the request's own examples, both sides of every bound, both refusals and
 -- their order. Assumes nothing.
-use Prim.Native.Nat.{ℕ}
 use mathlib.Core.Path.{_≡_, refl}
 use mathlib.Core.List.{List, [], _∷_}
-use lib.IntN.{ℤ, pos, negsuc}
+use lib.IntN.{pos, negsuc}
 use lib.ListN.{replicate}
 use Rattle.rules.specs.Words.{bytes, sameBytes}
-use Rattle.rules.specs.Refusals.{Answer, Gives, Refused}
+use Rattle.rules.specs.Refusals.{Answer, Refused}
 use Rattle.rules.specs.Calendar.{lengths, monthLength}
 use Rattle.rules.specs.Kinds.{kR, kD, kH, kU, kE, kV, Fields, fitsKind, ofKind, made, settled}
 use Rattle.rules.specs.Text.{digits, afterDigits, decimalValue, leading, secondDigit, oneOrTwo}

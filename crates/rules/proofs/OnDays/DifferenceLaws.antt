@@ -15,7 +15,7 @@ use Rattle.rules.specs.Calendar.{monthLength, firstDay, dayOfYear}
 use Rattle.rules.specs.Kinds.{Kind, kR, kD, kH, kU, kE, kV, Fields, withHour, hourFits, fitsKind, ofKind}
 use Rattle.rules.specs.Days.{dayNumberAt, dayNumber, countsDays, difference, Order, Before, Same, After, byZ, byN, order}
 use Rattle.rules.proofs.OnCalendar.CalendarLaws.{months-follow, day-of-year-small}
-use Rattle.rules.proofs.OnKinds.KindLaws.{Fit, fit, fit-back, month-fits}
+use Rattle.rules.proofs.OnKinds.KindLaws.{fit, month-fits, with-hour}
 use Rattle.rules.proofs.OnDays.OrderLaws.{byFields, pair-order, order-is}
 use Rattle.rules.proofs.OnDays.DayLaws.{counter}
 
@@ -107,17 +107,7 @@ days-order m n c d p q r s t u =
 
 -- the start of a date's day is a date of its kind
 start-is-date : (k : Kind) → countsDays k ≡ true → (f : Fields) → ofKind k f ≡ true → ofKind k (withHour f 0) ≡ true
-start-is-date k c f p =
-    let t = fit k f p in
-    fit-back k (withHour f 0) (record {
-      year-low = t .year-low;
-      year-high = t .year-high;
-      month-low = t .month-low;
-      month-high = t .month-high;
-      day-low = t .day-low;
-      day-high = t .day-high;
-      hour-fits = zero-fits k c;
-    })
+start-is-date k c f p = with-hour k f 0 p (zero-fits k c)
   where
     zero-fits : (k : Kind) → countsDays k ≡ true → hourFits k 0 ≡ true
     zero-fits kR c = refl

@@ -11,7 +11,7 @@ use Rattle.sign.specs.Halves.{up, dn}
 use Rattle.sign.proofs.Laws.{one-side, le-true, yes-le}
 use Rattle.rules.specs.Words.{within, minus, fits16}
 use Rattle.rules.specs.Calendar.{monthLength}
-use Rattle.rules.specs.Kinds.{Kind, kR, kD, kH, kU, kE, kV, Fields, daysIn, hourFits, fitsKind, ofKind}
+use Rattle.rules.specs.Kinds.{Kind, kR, kD, kH, kU, kE, kV, Fields, withHour, daysIn, hourFits, fitsKind, ofKind}
 
 -- ---- what a date of a kind has, by name
 
@@ -72,6 +72,20 @@ fit-back k f t =
       yes-within 1 (daysIn k (f .month)) (f .day) (t .day-low) (t .day-high),
       t .hour-fits,
     )
+
+-- a date with another hour of the kind is a date of the kind
+pub with-hour : (k : Kind) (f : Fields) (h : ℕ) → ofKind k f ≡ true → hourFits k h ≡ true → ofKind k (withHour f h) ≡ true
+with-hour k f h p e =
+    let t = fit k f p in
+    fit-back k (withHour f h) (record {
+      year-low = t .year-low;
+      year-high = t .year-high;
+      month-low = t .month-low;
+      month-high = t .month-high;
+      day-low = t .day-low;
+      day-high = t .day-high;
+      hour-fits = e;
+    })
 
 -- D, H, E and V keep the months' lengths
 abbrev pub keepsMonths : Kind → Bool

@@ -62,7 +62,7 @@ isoPart k year s =
 unfoldable pub spelledSo : Kind → List ℕ → Fields → Answer Fields
 spelledSo k s f = demand (sameBytes s (iso k f)) notText (Gives f)
 
--- the date that the text names
+-- the date that the text names. `settled`, as of every text; here it changes no hour, for E's are even
 unfoldable pub named : Kind → List ℕ → Answer Fields
 named k s =
     leading s then λ r. isoPart k (r .value) (r .rest) then λ f. settled k notText f then spelledSo k s

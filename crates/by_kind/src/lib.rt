@@ -1,15 +1,20 @@
-// A text read as a date of any kind: a dotted text by the kind's own reader, an ISO text by the one that all kinds share.
+// A text read as a date of any kind: the reader is the kind's own.
 ghost use mathlib.Core.Path.{_≡_};
-ghost use Rattle.rules.specs.Kinds.{kR, kD, kH, kU, kE, kV, store};
+ghost use Rattle.rules.specs.Kinds.{store};
 ghost use Rattle.rules.specs.Text.{readText};
 ghost use Rattle.requests.specs.IsoReader.{readIso};
 ghost use Rattle.kinds.specs.Views.{kindOf};
+ghost use Rattle.raw_date.specs.Views.{parsedAs as rawAs};
+ghost use Rattle.date.specs.Views.{parsedAs as dateAs};
+ghost use Rattle.date_hour.specs.Views.{parsedAs as hourAs};
+ghost use Rattle.uniform_date.specs.Views.{parsedAs as uniformAs};
+ghost use Rattle.eu5_date.specs.Views.{parsedAs as eu5As};
+ghost use Rattle.vic3_date.specs.Views.{parsedAs as vic3As};
 ghost use Rattle.by_kind.specs.Views.{parsedAs};
 use date::Date;
 use date_hour::DateHour;
 use eu5_date::Eu5Date;
 use kinds::Kind;
-use kinds::Made;
 use kinds::Packed;
 use raw_date::RawDate;
 use uniform_date::UniformDate;
@@ -22,10 +27,11 @@ pub enum Parsed {
     NotText,
 }
 
-fn raw(s: &[u8]) -> Parsed
-    ensures { λ r. ⌜ parsedAs r ≡ store (readText kR (now (s .entry))) ⌝ }
+// ---- what a kind's reader answers, as an answer of any kind
+
+fn raw(read: raw_date::Parsed) -> Parsed
+    ensures { λ r. ⌜ parsedAs r ≡ rawAs read ⌝ }
 {
-    let read = RawDate::parse(s);
     match read {
         raw_date::Parsed::Date(d) => {
             let raw = d.raw;
@@ -36,10 +42,9 @@ fn raw(s: &[u8]) -> Parsed
     }
 }
 
-fn date(s: &[u8]) -> Parsed
-    ensures { λ r. ⌜ parsedAs r ≡ store (readText kD (now (s .entry))) ⌝ }
+fn date(read: date::Parsed) -> Parsed
+    ensures { λ r. ⌜ parsedAs r ≡ dateAs read ⌝ }
 {
-    let read = Date::parse(s);
     match read {
         date::Parsed::Date(d) => {
             let raw = d.raw;
@@ -50,10 +55,9 @@ fn date(s: &[u8]) -> Parsed
     }
 }
 
-fn hour(s: &[u8]) -> Parsed
-    ensures { λ r. ⌜ parsedAs r ≡ store (readText kH (now (s .entry))) ⌝ }
+fn hour(read: date_hour::Parsed) -> Parsed
+    ensures { λ r. ⌜ parsedAs r ≡ hourAs read ⌝ }
 {
-    let read = DateHour::parse(s);
     match read {
         date_hour::Parsed::Date(d) => {
             let raw = d.raw;
@@ -64,10 +68,9 @@ fn hour(s: &[u8]) -> Parsed
     }
 }
 
-fn uniform(s: &[u8]) -> Parsed
-    ensures { λ r. ⌜ parsedAs r ≡ store (readText kU (now (s .entry))) ⌝ }
+fn uniform(read: uniform_date::Parsed) -> Parsed
+    ensures { λ r. ⌜ parsedAs r ≡ uniformAs read ⌝ }
 {
-    let read = UniformDate::parse(s);
     match read {
         uniform_date::Parsed::Date(d) => {
             let raw = d.raw;
@@ -78,10 +81,9 @@ fn uniform(s: &[u8]) -> Parsed
     }
 }
 
-fn eu5(s: &[u8]) -> Parsed
-    ensures { λ r. ⌜ parsedAs r ≡ store (readText kE (now (s .entry))) ⌝ }
+fn eu5(read: eu5_date::Parsed) -> Parsed
+    ensures { λ r. ⌜ parsedAs r ≡ eu5As read ⌝ }
 {
-    let read = Eu5Date::parse(s);
     match read {
         eu5_date::Parsed::Date(d) => {
             let raw = d.raw;
@@ -92,10 +94,9 @@ fn eu5(s: &[u8]) -> Parsed
     }
 }
 
-fn vic3(s: &[u8]) -> Parsed
-    ensures { λ r. ⌜ parsedAs r ≡ store (readText kV (now (s .entry))) ⌝ }
+fn vic3(read: vic3_date::Parsed) -> Parsed
+    ensures { λ r. ⌜ parsedAs r ≡ vic3As read ⌝ }
 {
-    let read = Vic3Date::parse(s);
     match read {
         vic3_date::Parsed::Date(d) => {
             let raw = d.raw;
@@ -106,28 +107,30 @@ fn vic3(s: &[u8]) -> Parsed
     }
 }
 
+// ---- the readers
+
 pub fn parse(kind: Kind, s: &[u8]) -> Parsed
     ensures { λ r. ⌜ parsedAs r ≡ store (readText (kindOf kind) (now (s .entry))) ⌝ }
 {
     match kind {
-        Kind::Raw => raw(s),
-        Kind::Date => date(s),
-        Kind::Hour => hour(s),
-        Kind::Uniform => uniform(s),
-        Kind::Eu5 => eu5(s),
-        Kind::Vic3 => vic3(s),
+        Kind::Raw => raw(RawDate::parse(s)),
+        Kind::Date => date(Date::parse(s)),
+        Kind::Hour => hour(DateHour::parse(s)),
+        Kind::Uniform => uniform(UniformDate::parse(s)),
+        Kind::Eu5 => eu5(Eu5Date::parse(s)),
+        Kind::Vic3 => vic3(Vic3Date::parse(s)),
     }
 }
 
 pub fn parse_iso(kind: Kind, s: &[u8]) -> Parsed
     ensures { λ r. ⌜ parsedAs r ≡ store (readIso (kindOf kind) (now (s .entry))) ⌝ }
 {
-    if reading::TEXT_LIMIT < s.len() {
-        return Parsed::TooLong;
-    }
-    let made = iso_reading::read(kind, s);
-    match made {
-        Made::Date(raw) => Parsed::Date(raw),
-        Made::None => Parsed::NotText,
+    match kind {
+        Kind::Raw => raw(RawDate::parse_iso(s)),
+        Kind::Date => date(Date::parse_iso(s)),
+        Kind::Hour => hour(DateHour::parse_iso(s)),
+        Kind::Uniform => uniform(UniformDate::parse_iso(s)),
+        Kind::Eu5 => eu5(Eu5Date::parse_iso(s)),
+        Kind::Vic3 => vic3(Vic3Date::parse_iso(s)),
     }
 }

@@ -1,21 +1,15 @@
--- `by_kind::hour` meets its contract: what the reader of H answers. Assumes nothing.
+-- `by_kind::hour` meets its contract, case by case. Assumes nothing.
 use borrow.Author.Needs.{needs}
-use mathlib.Core.Path.{sym, ap, _∙_}
-use Rattle.date_hour.specs.Views.{parsedAs}
 use Rattle.by_kind.proofs.hour.Statement.{statement}
 use Rattle.by_kind.proofs.hour.Tie as tie
-
-returns : tie.Need-returns
-returns c =
-    ap parsedAs (sym (c .before .before .read .given .1)) ∙ c .before .before .before .before .parse .ensures
-
-returns-2 : tie.Need-returns-2
-returns-2 c = ap parsedAs (sym (c .enum-told .given .1)) ∙ c .before .before .parse .ensures
-
-returns-3 : tie.Need-returns-3
-returns-3 c = ap parsedAs (sym (c .enum-told2 .given .1)) ∙ c .before .before .parse .ensures
 
 pub hour-spec : {M : Type 1} → statement M
 hour-spec =
     tie.close
-    (tie.spec (λ c κs. search needs) (λ c. search needs) (λ c. search needs) (λ c. search needs) returns returns-2 returns-3)
+    (tie.spec
+    (λ c. search needs)
+    (λ c. search needs)
+    (λ c. search needs)
+    (λ c. rw (c .before .before .read .given .1))
+    (λ c. rw (c .enum-told .given .1))
+    (λ c. rw (c .enum-told2 .given .1)))

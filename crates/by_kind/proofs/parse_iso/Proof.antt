@@ -1,18 +1,52 @@
--- `by_kind::parse_iso` meets its contract: the length, then the date that the text names. Assumes nothing.
+-- `by_kind::parse_iso` meets its contract, kind by kind: what the kind's own reader answers. Assumes nothing.
 use borrow.Author.Needs.{needs}
-use mathlib.Core.Path.{sym}
-use Rattle.kinds.specs.Views.{kindOf}
-use Rattle.iso_reading.proofs.Texts.{too-long, iso-read}
+use mathlib.Core.Path.{_∙_}
 use Rattle.by_kind.proofs.parse_iso.Statement.{statement}
 use Rattle.by_kind.proofs.parse_iso.Tie as tie
+
+returns : tie.Need-returns
+returns c = rw (c .before .before .enum-told .given .1) (c .raw .ensures ∙ c .before .parse-iso .ensures)
+
+returns-2 : tie.Need-returns-2
+returns-2 c = rw (c .before .before .enum-told2 .given .1) (c .date .ensures ∙ c .before .parse-iso2 .ensures)
+
+returns-3 : tie.Need-returns-3
+returns-3 c = rw (c .before .before .enum-told3 .given .1) (c .hour .ensures ∙ c .before .parse-iso3 .ensures)
+
+returns-4 : tie.Need-returns-4
+returns-4 c = rw (c .before .before .enum-told4 .given .1) (c .uniform .ensures ∙ c .before .parse-iso4 .ensures)
+
+returns-5 : tie.Need-returns-5
+returns-5 c = rw (c .before .before .enum-told5 .given .1) (c .eu5 .ensures ∙ c .before .parse-iso5 .ensures)
+
+returns-6 : tie.Need-returns-6
+returns-6 c = rw (c .before .before .enum-told6 .given .1) (c .vic3 .ensures ∙ c .before .parse-iso6 .ensures)
 
 pub parse-iso-spec : {M : Type 1} → statement M
 parse-iso-spec =
     tie.close
     (tie.spec
-    (λ c. sym (too-long (kindOf (c .before .before .args .kind)) _ (c .if1 .taken)))
+    (λ c. search needs)
+    (λ c κs. search needs)
     (λ c κs. search needs)
     (λ c. search needs)
+    (λ c κs. search needs)
+    (λ c κs. search needs)
     (λ c. search needs)
-    (λ c. iso-read (kindOf (c .before .before .before .before .before .before .args .kind)) _ (c .before .before .before .before .if1 .left) (c .before .before .before .read .ensures) (c .before .made .given .1))
-    (λ c. iso-read (kindOf (c .before .before .before .before .before .args .kind)) _ (c .before .before .before .if1 .left) (c .before .before .read .ensures) (c .enum-told .given .1)))
+    (λ c κs. search needs)
+    (λ c κs. search needs)
+    (λ c. search needs)
+    (λ c κs. search needs)
+    (λ c κs. search needs)
+    (λ c. search needs)
+    (λ c κs. search needs)
+    (λ c κs. search needs)
+    (λ c. search needs)
+    (λ c κs. search needs)
+    (λ c κs. search needs)
+    returns
+    returns-2
+    returns-3
+    returns-4
+    returns-5
+    returns-6)

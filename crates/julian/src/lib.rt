@@ -7,16 +7,21 @@ ghost use Rattle.rules.specs.Calendar.{monthDay, monthLength, dayOfYear};
 ghost use Rattle.rules.specs.Numbers.{straightAt};
 ghost use Rattle.julian.specs.First.{firstDayAs, firstDayOf};
 
-const LENGTHS: [u8; 13] = [0, 31, 28, 31, 30, 31, 30, 31, 31, 30, 31, 30, 31];
-
-// The length of a month by its number, 1 to 12; 0 of what is no month. Everyone who needs a month's length asks here.
+// The length of a month by its number, 1 to 12; 0 of what is no month. Everyone who needs a month's length asks here. It is worked out
+// and no table is kept of it: the odd months are the long ones up to July, and from August on, where `month / 8` is 1, the even ones.
 pub fn month_length(month: u8) -> u8
     ensures { λ r. ⌜ r ≡ monthLength month ⌝ }
 {
+    if month < 1 {
+        return 0;
+    }
     if 12 < month {
         return 0;
     }
-    LENGTHS[month as usize]
+    if month == 2 {
+        return 28;
+    }
+    30 + (month + month / 8) % 2
 }
 
 // A month from 1 and a day from 1.

@@ -60,7 +60,7 @@ pub enum Ordered {
     NotOfKind,
 }
 
-// The greatest day of a month. The month's length is looked up for every kind: the kind then only chooses, which costs no jump.
+// The greatest day of a month. The month's length is worked out for every kind: the kind then only chooses, which costs no jump.
 fn days_in(kind: Kind, month: u8) -> u8
     ensures { λ r. ⌜ r ≡ daysIn (kindOf kind) month ⌝ }
 {

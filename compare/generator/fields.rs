@@ -24,6 +24,10 @@ fn ask_kind<K: Kind>(answers: &mut Answers) {
             answers.edge(row::<K>(Fields::new(1444, month, day, hour)));
         }
     }
+    // every other month byte, with the day that all months have
+    for month in 14..=254 {
+        answers.edge(row::<K>(Fields::new(1444, month, 1, hour)));
+    }
     for year in YEARS {
         for (month, day) in [(1, 1), (12, 31)] {
             answers.edge(row::<K>(Fields::new(year, month, day, hour)));

@@ -24,7 +24,7 @@ fn ask_kind<K: Kind>(answers: &mut Answers) {
             answers.edge(row::<K>(Fields::new(1444, month, day, hour)));
         }
     }
-    // every other month byte, with the day that all months have
+    // every other month byte, with the day that every month has
     for month in 14..=254 {
         answers.edge(row::<K>(Fields::new(1444, month, 1, hour)));
     }

@@ -11,7 +11,7 @@ use lib.ListN.{length}
 use Rattle.rules.specs.Words.{within}
 use Rattle.rules.specs.Refusals.{Answer, Gives, _then_, demand, notText}
 use Rattle.rules.specs.Kinds.{kD, Fields, Stored, settled, store}
-use Rattle.rules.specs.Text.{Read, isDigit, digits, afterDigits, decimalValue, leading, secondDigit, oneOrTwo, afterDot, hourAfter, dottedPart, shapeAllowed, textFields, readText}
+use Rattle.rules.specs.Text.{Read, isDigit, digits, afterDigits, decimalValue, leading, secondDigit, oneOrTwo, afterDot, hourAfter, dottedPart, shapeAllowed, textLimit, textFields, readText}
 use Rattle.rules.proofs.OnKinds.PackLaws.{same-fields}
 use Rattle.util.specs.Word.{allDigits}
 use Rattle.fast_date.specs.Fast.{alike, fastShape, quickly, Quick, Answers, Silent, eightDate, eight}
@@ -42,7 +42,7 @@ module _ (a b c d : ℕ) (p : Digit a) (q : Digit b) (r : Digit c) (s : Digit d)
   unfolding readText shapeAllowed textFields
   reads t l h =
       let n = length (a ∷ b ∷ c ∷ d ∷ 46 ∷ t) in
-      simp (le-leb n 16 (omega arith), le-leb 5 n l, le-leb n 12 h, p .no-plus, leads t)
+      simp (le-leb n textLimit (omega arith), le-leb 5 n l, le-leb n 12 h, p .no-plus, leads t)
 
 -- ---- month and day
 

@@ -19,6 +19,7 @@ use Rattle.rules.specs.Text.{Read}
 use Rattle.rules.specs.Spelling.{iso}
 use Rattle.rules.proofs.OnKinds.PackLaws.{unpack-pack, handed-back}
 use Rattle.rules.proofs.OnRefusals.OutcomeLaws.{Outcome, gives, refuses, Dated, outcome-so, outcome-settled}
+use Rattle.rules.proofs.OnText.LeadingLaws.{year-out}
 use Rattle.requests.specs.IsoReader.{isoPart, spelledSo, named}
 use Rattle.requests.proofs.OnIsoReader.NamedLaws.{outcome-iso-part}
 use Rattle.scalar.specs.Number.{most63, leadingNumber}
@@ -33,7 +34,7 @@ use Rattle.kinds.specs.Views.{bitsOf, madeAs}
 use Rattle.kinds.specs.declared.Packed.{Packed}
 use Rattle.kinds.specs.declared.Made.{Made}
 use Rattle.kinds.specs.declared.Made.the-variants as M
-use Rattle.reading.proofs.Leads.{no-year, year-out, led-none, led-some}
+use Rattle.reading.proofs.Leads.{no-year, led-none, led-some}
 
 -- ---- what follows the leading number
 

@@ -13,9 +13,8 @@ use Rattle.sign.specs.Halves.{dn}
 use Rattle.sign.proofs.Laws.{ints, one-side, yes-le, no-le}
 use Rattle.rules.specs.Words.{minus, withinZ, fits16, fits32}
 use Rattle.rules.specs.Refusals.{Answer, Gives, Refused, RefusedAt, _then_, demand, notText}
-use Rattle.rules.specs.Kinds.{Kind, Fields, ofKind, made, settled}
+use Rattle.rules.specs.Kinds.{Fields}
 use Rattle.rules.specs.Text.{Read, leading}
-use Rattle.rules.proofs.OnRefusals.OutcomeLaws.{Outcome, gives, refuses}
 use Rattle.scalar.specs.Number.{most63, leadingNumber}
 use Rattle.scalar.specs.Views.{leadingAs}
 use Rattle.scalar.specs.declared.Leading.{Leading}
@@ -40,13 +39,6 @@ no-year y h = beyond y 32768 32767 (omega arith) (omega arith) h
 
 pub no-number : (y : ℤ) → most63 < natAbs y → fits32 y ≡ false
 no-number y h = beyond y 2147483648 2147483647 (omega arith) (omega arith) h
-
--- fields of a year that is none are no date's
-pub year-out : (k : Kind) {y : ℤ} {x : Answer Fields} → Outcome (λ n. n ≡ notText) (λ f. f .year ≡ y) x → fits16 y ≡ false
-    → (x then λ f. settled k notText f) ≡ Refused notText
-unfolding settled made ofKind
-year-out k (gives p) e = rw (p, e)
-year-out k (refuses two) e = rw two
 
 -- ---- what follows the number
 

@@ -1,2 +1,3 @@
--- A date's own text read back.
+-- What a text's leading number decides, and a date's own text read back.
+pub mod LeadingLaws
 pub mod TextBack

@@ -6,7 +6,7 @@
  * the kind: each is refusal 4, and 14 in the calls of tables.
  *
  * Every answer has a refusal, 0 where there is none:
- *    1 text over 16 bytes            6 sum outside every date         12 book or new table: no room
+ *    1 text over 64 bytes            6 sum outside every date         12 book or new table: no room
  *    2 text not of that kind         7 buffer shorter than the text   13 book or table: nothing at that place
  *    3 number not a date,            9 book or table: its length      14 table: an entry or a call out of order
  *      or guess refused             10 book or table: its version        or not allowed
@@ -56,10 +56,14 @@ typedef struct {
    a date; from any number, by the narrow guess; from its fields, of which D, U and E ignore the hour. The value is the
    date.
 
-   An ISO text is read as pq_write_iso spells it and in no other way: the year -5 is -005, never -5 or -0005. R takes an
-   hour or none; D and U refuse one; H, E and V demand theirs, so that E's ISO date alone is refused. Every date comes back
-   as it was, but for E's odd hours, which come back even: 2 and 3 are both written as T09, and T09 is read as 2. No dotted
-   text is read there, and no ISO text by pq_read_text. */
+   A text over 64 bytes is 1, whatever it says; any other that is not of the kind is 2. A dotted text's year and a number's
+   text may have zeros before them, as many as fit, and the true value decides: 18446744073709553060.1.1, of the year
+   2^64 + 1444, is 2 and never 1444.1.1. Of D such a text has 12 bytes at most: one of 13 to 64 is 2.
+
+   An ISO text is read as pq_write_iso spells it and in no other way: the year -5 is -005, never -5 or -0005, and none has
+   over 15 bytes. R takes an hour or none; D and U refuse one; H, E and V demand theirs, so that E's ISO date alone is
+   refused. Every date comes back as it was, but for E's odd hours, which come back even: 2 and 3 are both written as T09,
+   and T09 is read as 2. No dotted text is read there, and no ISO text by pq_read_text. */
 pq_answer pq_read_text(uint32_t kind, const uint8_t *text, size_t len);
 pq_answer pq_read_iso(uint32_t kind, const uint8_t *text, size_t len);
 pq_answer pq_read_number(uint32_t kind, int32_t number);

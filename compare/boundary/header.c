@@ -54,6 +54,28 @@ static void dates(void) {
     gives("pq_start_of_day", pq_start_of_day(E, date(1337, 4, 1, 22)), 0, date(1337, 4, 1, 0));
 }
 
+/* The text behind so many zeros. */
+static void reads_padded(const char *what, uint32_t kind, size_t zeros, const char *text, uint32_t refusal, uint32_t value) {
+    uint8_t padded[80];
+    memset(padded, '0', zeros);
+    memcpy(padded + zeros, text, strlen(text));
+    gives(what, pq_read_text(kind, padded, zeros + strlen(text)), refusal, value);
+}
+
+static void padded_texts(void) {
+    reads_padded("pq_read_text, 64 bytes", R, 56, "1444.1.1", 0, date(1444, 1, 1, 0));
+    reads_padded("pq_read_text, 65 bytes", R, 57, "1444.1.1", 1, 0);
+    reads_padded("pq_read_text, 2^64 + 1444", R, 0, "18446744073709553060.1.1", 2, 0);
+    reads_padded("pq_read_text, 2^64 + 1444 in 64 bytes", R, 40, "18446744073709553060.1.1", 2, 0);
+    reads_padded("pq_read_text, 12 bytes of D", D, 4, "1444.1.1", 0, date(1444, 1, 1, 0));
+    reads_padded("pq_read_text, 13 bytes of D", D, 5, "1444.1.1", 2, 0);
+    reads_padded("pq_read_text, 64 bytes of D", D, 56, "1444.1.1", 2, 0);
+    reads_padded("pq_read_text, 65 bytes of D", D, 57, "1444.1.1", 1, 0);
+    reads_padded("pq_read_text, a number's text of 64 bytes", U, 56, "43808760", 0, date(1, 1, 1, 0));
+    reads_padded("pq_read_text, a number's text of 65 bytes", U, 57, "43808760", 1, 0);
+    reads_padded("pq_read_text, 65 bytes of a kind that is none", 7, 57, "1444.1.1", 4, 0);
+}
+
 static void reads_iso(const char *what, uint32_t kind, const char *text, uint32_t refusal, uint32_t value) {
     gives(what, pq_read_iso(kind, (const uint8_t *)text, strlen(text)), refusal, value);
 }
@@ -68,9 +90,12 @@ static void iso_texts(void) {
     reads_iso("pq_read_iso, a year before 0", D, "-005-01-02", 0, date(-5, 1, 2, 0));
     reads_iso("pq_read_iso, that year in another spelling", D, "-0005-01-02", 2, 0);
     reads_iso("pq_read_iso, an hour where there is none", D, "1444-11-12T12", 2, 0);
-    reads_iso("pq_read_iso, 16 bytes", R, "1444-11-12T12:00", 2, 0);
-    reads_iso("pq_read_iso, 17 bytes", R, "1444-11-12T12:00Z", 1, 0);
-    reads_iso("pq_read_iso, a kind that is none", 7, "1444-11-12T12:00Z", 4, 0);
+    uint8_t longer[65];
+    memset(longer, '0', sizeof longer);
+    memcpy(longer, "1444-11-12T12", 13);
+    gives("pq_read_iso, 64 bytes", pq_read_iso(R, longer, 64), 2, 0);
+    gives("pq_read_iso, 65 bytes", pq_read_iso(R, longer, 65), 1, 0);
+    gives("pq_read_iso, a kind that is none", pq_read_iso(7, longer, 65), 4, 0);
     const uint8_t text[] = "1444-11-12x";
     gives("pq_read_iso, a byte more", pq_read_iso(D, text, 11), 2, 0);
     gives("pq_read_iso, as long as it is said to be", pq_read_iso(D, text, 10), 0, date(1444, 11, 12, 0));
@@ -207,6 +232,7 @@ static void tables(void) {
 
 int main(void) {
     dates();
+    padded_texts();
     iso_texts();
     numbers();
     texts();

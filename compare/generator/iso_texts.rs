@@ -4,8 +4,9 @@
 use crate::answers::{Answers, Row, quoted};
 use crate::dates::any_date;
 use crate::kinds::Kind;
+use crate::padded::{SIDES, filled, followed};
 use crate::random::Random;
-use crate::text_edges::{LONGEST, with_byte, words};
+use crate::text_edges::{SHORT, with_byte, words};
 use std::collections::BTreeSet;
 
 const SAMPLES_PER_KIND: usize = 60;
@@ -46,14 +47,20 @@ const OTHERS: &str = "
     - + T T12 -11-11 1444.11.11 1444.11.11.12 43808760 43808761 14441111 144411-11 1444-1111
     1444-W46-3";
 
-/// At and past the longest text: there 1 comes first, whatever else the text is. Where a number
-/// passes 63 bits, its text passes 16 bytes.
+/// At and past the longest ISO text, which has 15 bytes: that is 2 as any other text is. Years past 63 and
+/// 64 bits.
 const LENGTHS: &str = "
     -32768-12-31T23 -32768-12-31T230 -32768-12-31T2300 -032768-12-31T23 -0032768-12-31T23
     0001444-11-11T12 00001444-11-11T12 0000001444-11-11 00000001444-11-11 1444-11-11T12:00:
     0000000000000000 00000000000000000 9999999999-01-01 99999999999-01-01 ----------------
     ----------------- 9999999999999999 9223372036854775808 9223372036854777252-11-11
     18446744073709553060-11-11T12";
+
+/// Zeros before their years up to both sides of the limit of texts: over it 1 comes first, whatever else
+/// the text is.
+const FILLED: &str = "
+    1444-11-11 1444-11-11T12 -005-01-01 0000-01-01 0 9223372036854775808-11-11
+    18446744073709553060-11-11 18446744073709553060-11-11T12";
 
 pub fn ask(questions: &mut Answers) {
     ask_all_six!(ask_kind(questions));
@@ -84,6 +91,7 @@ fn edges() -> BTreeSet<Vec<u8>> {
     add_hours(&mut texts);
     add_marks(&mut texts);
     add_odd_bytes(&mut texts);
+    add_long(&mut texts);
     texts
 }
 
@@ -155,6 +163,16 @@ fn add_odd_bytes(texts: &mut BTreeSet<Vec<u8>>) {
     }
 }
 
+/// At both sides of the limit: padded years, no year, and right texts with something after them.
+fn add_long(texts: &mut BTreeSet<Vec<u8>>) {
+    for length in SIDES {
+        texts.extend(words(FILLED).map(|text| filled(text, length).into_bytes()));
+        texts.insert(vec![b'-'; length]);
+        texts.insert(followed(DAY, b' ', length));
+        texts.insert(followed(HOUR, b'0', length));
+    }
+}
+
 /// A date of the kind as the original writes it, or such a text with a byte replaced, added or taken
 /// out.
 fn some_text<K: Kind>(random: &mut Random) -> Vec<u8> {
@@ -167,7 +185,7 @@ fn some_text<K: Kind>(random: &mut Random) -> Vec<u8> {
         2 => drop(text.remove(place)),
         _ => {}
     }
-    assert!(text.len() <= LONGEST);
+    assert!(text.len() <= SHORT);
     text
 }
 

@@ -2,15 +2,17 @@
 //! the original's `to_i64_t`.
 
 use crate::answers::{Answers, Row, quoted};
+use crate::padded::filled;
 use crate::random::Random;
-use crate::text_edges::{self, LONGEST};
+use crate::text_edges::{self, SHORT};
 use jomini::leaves;
 
 const SAMPLES: usize = 500;
 const LONG_SAMPLES: usize = 200;
 
-/// Both sides of 64 bits, with and without a sign, and values that come back after wrapping.
-const MAGNITUDES: [&str; 20] = [
+/// Both sides of 64 bits, with and without a sign, and values that come back after wrapping: two of them
+/// with as many digits as a text may have before `.1.1`, or nearly.
+const MAGNITUDES: [&str; 22] = [
     "99999999999999999",
     "999999999999999999",
     "1000000000000000000",
@@ -31,6 +33,22 @@ const MAGNITUDES: [&str; 20] = [
     "00000000000000000000000000000001444",
     "00000000009223372036854775808",
     "00000000018446744073709551616",
+    "6277101735386680763835789423207666416102355444464034514340",
+    "100000000000000000000000000000000000000000000000000000001444",
+];
+
+/// Zeros before these up to so many bytes, past the limit of texts too: the leading number has none.
+const FILLED: [(&str, usize); 10] = [
+    ("0", 64),
+    ("1444", 60),
+    ("1444", 64),
+    ("1444", 75),
+    ("43808760", 64),
+    ("9223372036854775807", 60),
+    ("9223372036854775808", 60),
+    ("18446744073709553060", 60),
+    ("18446744073709553060", 75),
+    ("184467440737095517604", 60),
 ];
 
 pub fn ask(answers: &mut Answers) {
@@ -38,14 +56,14 @@ pub fn ask(answers: &mut Answers) {
         answers.edge(row(&text));
     }
     for _ in 0..SAMPLES {
-        let text = number_and_rest(&mut answers.random, 0, LONGEST);
+        let text = number_and_rest(&mut answers.random, 0, SHORT);
         answers.sample(row(&text));
     }
 }
 
 /// Each magnitude behind every sign and before some rests.
 pub fn ask_long(answers: &mut Answers) {
-    for magnitude in MAGNITUDES {
+    for magnitude in magnitudes() {
         for sign in ["", "-", "+"] {
             for rest in ["", ".", ".1.1", "x", "-1"] {
                 let text = format!("{sign}{magnitude}{rest}");
@@ -54,9 +72,14 @@ pub fn ask_long(answers: &mut Answers) {
         }
     }
     for _ in 0..LONG_SAMPLES {
-        let text = number_and_rest(&mut answers.random, LONGEST + 1, 40);
+        let text = number_and_rest(&mut answers.random, SHORT + 1, 40);
         answers.sample(row(&text));
     }
+}
+
+fn magnitudes() -> impl Iterator<Item = String> {
+    let as_they_are = MAGNITUDES.into_iter().map(String::from);
+    as_they_are.chain(FILLED.map(|(magnitude, length)| filled(magnitude, length)))
 }
 
 fn row(text: &[u8]) -> Row {

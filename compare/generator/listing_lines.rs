@@ -1,6 +1,7 @@
 //! Lines for `datelist` at both sides of every bound on lines: each shape that the page names or
 //! leaves out, and each edge of texts and numbers.
 
+use crate::padded::{self, LIMIT, SIDES, filled};
 use crate::{numbers, text_edges};
 
 pub const KINDS: [char; 6] = ['R', 'D', 'H', 'U', 'E', 'V'];
@@ -42,13 +43,17 @@ const NUMBERS: &str = "
     4351424272 9999999999 -9999999999 99999999999 -99999999999 18446744073709551616 330847679
     330847680 -243247680 -243247681 -8760 -8736 43808760 43808761";
 
-/// 16 bytes are a text and 17 are none; D's has at most 12.
+/// D's text has at most 12 bytes, and those of the others may have 16 and 17.
 const TEXTS: &str = "
     1444.1.1 144444444.1 1444.11.11.1 -32768.12.31 -32768.12.31. 001444.11.11 0001444.11.11
     0001444.11.11.12 00001444.11.11.12 0000000043808760 00000000043808760 0000000043808761
     00000000043808761 000000001444.1.1 0000000001444.1.1 -000000001444.1.1 +00000001444.1.1
     xxxxxxxxxxxxxxxx xxxxxxxxxxxxxxxxx ................ .................
     1444.11.11.1444.11.11.1444.11.11.1444.11.11";
+
+/// 64 bytes are a text and 65 are none: each with zeros before it up to both.
+const FILLED: &str = "
+    1444.1.1 1444.11.11.12 -1444.1.1 +1444.1.1 43808760 43808761 18446744073709553060.1.1 x .";
 
 /// Bytes that a reader might take for the end of a line or of a part.
 const ODD_BYTES: [u8; 9] = [0, 9, 11, 13, 32, 46, 127, 128, 255];
@@ -58,17 +63,17 @@ pub fn all() -> Vec<Vec<u8>> {
     let mut lines = shapes();
     for kind in KINDS {
         for way in ['t', 'b', 'g'] {
-            let line = |rest: &str| format!("{kind} {way} {rest}").into_bytes();
-            lines.extend(RESTS.into_iter().map(line));
+            let line = |rest: String| format!("{kind} {way} {rest}").into_bytes();
+            lines.extend(rests().map(line));
         }
     }
     for way in ["D b", "V g"] {
-        let line = |number: &str| format!("{way} {number}").into_bytes();
-        lines.extend(NUMBERS.split_whitespace().map(line));
+        let line = |number: String| format!("{way} {number}").into_bytes();
+        lines.extend(some_numbers().map(line));
     }
     for kind in KINDS {
-        let line = |text: &str| format!("{kind} t {text}").into_bytes();
-        lines.extend(TEXTS.split_whitespace().map(line));
+        let line = |text: String| format!("{kind} t {text}").into_bytes();
+        lines.extend(some_texts().map(line));
     }
     lines.extend(with_odd_bytes());
     lines.extend(long_lines());
@@ -76,6 +81,24 @@ pub fn all() -> Vec<Vec<u8>> {
     lines.extend(number_lines());
     assert!(!lines.iter().any(|line| line.contains(&b'\n')));
     lines
+}
+
+/// The last one again, padded up to both sides of the limit of texts.
+fn rests() -> impl Iterator<Item = String> {
+    let padded = SIDES.map(|length| filled("1444.1.1", length));
+    RESTS.map(String::from).into_iter().chain(padded)
+}
+
+/// A number that is padded as a text may be has too many digits.
+fn some_numbers() -> impl Iterator<Item = String> {
+    let padded = [filled("56456976", LIMIT)];
+    NUMBERS.split_whitespace().map(String::from).chain(padded)
+}
+
+fn some_texts() -> impl Iterator<Item = String> {
+    let both_sides = |text| SIDES.map(|length| filled(text, length));
+    let padded = FILLED.split_whitespace().flat_map(both_sides);
+    TEXTS.split_whitespace().map(String::from).chain(padded)
 }
 
 /// Empty lines come first. In the list each line stands behind a bar.
@@ -90,7 +113,8 @@ fn shapes() -> Vec<Vec<u8>> {
     shapes
 }
 
-/// Each odd byte alone, in the place of each byte of the line's head, and at both ends of its rest.
+/// Each odd byte alone, in the place of each byte of the line's head, and at both ends of its rest; and a
+/// rest of nothing else, at both sides of the limit.
 fn with_odd_bytes() -> Vec<Vec<u8>> {
     let mut lines = Vec::new();
     for byte in ODD_BYTES {
@@ -104,8 +128,9 @@ fn with_odd_bytes() -> Vec<Vec<u8>> {
             lines.push([base, &[byte]].concat());
             lines.push([&[byte], base].concat());
         }
-        lines.push([b"U t ".as_slice(), &[byte; 16]].concat());
-        lines.push([b"U t ".as_slice(), &[byte; 17]].concat());
+        for length in SIDES {
+            lines.push([b"U t ".to_vec(), vec![byte; length]].concat());
+        }
     }
     lines
 }
@@ -115,9 +140,9 @@ fn long_lines() -> [Vec<u8>; 3] {
     ["", "D t ", "D b "].map(|head| [head.as_bytes(), &[b'1'; 1000]].concat())
 }
 
-/// Each edge text, of one kind after another.
+/// Each edge text, of one kind after another: the short ones, then the padded ones.
 fn text_lines() -> impl Iterator<Item = Vec<u8>> {
-    let texts = text_edges::all().into_iter();
+    let texts = text_edges::all().into_iter().chain(padded::all());
     let in_one_line = texts.filter(|text| !text.contains(&b'\n'));
     let line = |(text, kind): (Vec<u8>, char)| [format!("{kind} t ").as_bytes(), &text].concat();
     in_one_line.zip(KINDS.into_iter().cycle()).map(line)

@@ -1,6 +1,6 @@
 //! Asks the original and writes its answers: `generate FOLDER` writes every file of the folder.
-//! Only inputs are made here; every answer comes from the original. For what the original lacks
-//! there are inputs alone, which the second reading answers.
+//! Only inputs are made here; every answer comes from the original, but for a text over our limit, which
+//! is refused unread. For what the original lacks there are inputs alone, which the second reading answers.
 
 #[macro_use]
 mod kinds;
@@ -20,6 +20,7 @@ mod listing_lines;
 mod listings;
 mod numbers;
 mod orders;
+mod padded;
 mod panics;
 mod random;
 mod spellings;

@@ -1,9 +1,10 @@
-//! Texts at both sides of every bound on texts. Each is asked of all six kinds.
+//! Short texts at both sides of every bound on texts but their limit, which `padded` has. Each is asked of
+//! all six kinds.
 
 use std::collections::BTreeSet;
 
-/// The longest text that is asked.
-pub const LONGEST: usize = 16;
+/// The longest text that is asked here and in the samples.
+pub const SHORT: usize = 16;
 
 /// The texts of the examples and of the pairs.
 const EXAMPLES: &str = "
@@ -46,7 +47,7 @@ const NUMBERS: &str = "
     99999999 00000024 08760000 -0008760 -8760000 999999999999 9999999999999 9999999999999999
     -999999999999999 0000000043808760 0000000043808761 000000000720 0000000000720 00720 -00720";
 
-/// D's text has 5 to 12 bytes; no text over 16 is asked.
+/// D's text has 5 to 12 bytes.
 const LENGTHS: &str = "
     -32768.12.31 -32768.12.31.1 -32768.12.31.6 -32768.12.31.22 -32768.12.31.24 -32768.1.1.1
     -032768.1.1 -032768.12.31 -0032768.12.31 -0032768.1.1 -00032768.1.1 -000032768.1.1
@@ -77,7 +78,7 @@ pub fn all() -> BTreeSet<Vec<u8>> {
     add_months_and_days(&mut texts);
     add_zeros(&mut texts);
     add_odd_bytes(&mut texts);
-    assert!(texts.iter().all(|text| text.len() <= LONGEST));
+    assert!(texts.iter().all(|text| text.len() <= SHORT));
     texts
 }
 
@@ -103,10 +104,10 @@ fn add_months_and_days(texts: &mut BTreeSet<Vec<u8>>) {
 
 /// Nothing but zeros at every length, and behind a sign at the lengths that matter to D.
 fn add_zeros(texts: &mut BTreeSet<Vec<u8>>) {
-    for length in 0..=LONGEST {
+    for length in 0..=SHORT {
         texts.insert(vec![b'0'; length]);
     }
-    for length in [4, 5, 7, 8, 9, 12, 13, LONGEST] {
+    for length in [4, 5, 7, 8, 9, 12, 13, SHORT] {
         for sign in ["-", "+"] {
             texts.insert(format!("{sign}{:01$}", 0, length - 1).into_bytes());
         }

@@ -1,10 +1,11 @@
-//! texts.txt: `K t "TEXT" DATE`, or `refused 2` for the date.
+//! texts.txt: `K t "TEXT" DATE`, or `refused 2` for the date; `refused 1` for a text over the limit.
 
 use crate::answers::{Answers, Row, date_or_refused, quoted};
 use crate::dates::any_date;
 use crate::kinds::Kind;
+use crate::padded::{self, LIMIT};
 use crate::random::Random;
-use crate::text_edges::{self, LONGEST};
+use crate::text_edges::{self, SHORT};
 
 const SAMPLES_PER_KIND: usize = 150;
 
@@ -13,8 +14,8 @@ pub fn ask(answers: &mut Answers) {
 }
 
 fn ask_kind<K: Kind>(answers: &mut Answers) {
-    for text in text_edges::all() {
-        answers.edge(row::<K>(&text));
+    for text in text_edges::all().union(&padded::all()) {
+        answers.edge(row::<K>(text));
     }
     for _ in 0..SAMPLES_PER_KIND {
         let text = some_text::<K>(&mut answers.random);
@@ -22,8 +23,13 @@ fn ask_kind<K: Kind>(answers: &mut Answers) {
     }
 }
 
+/// The original has no limit: it is not asked about a text over ours.
 fn row<K: Kind>(text: &[u8]) -> Row {
-    let answer = date_or_refused(K::read(text), 2);
+    let answer = if text.len() > LIMIT {
+        "refused 1".to_string()
+    } else {
+        date_or_refused(K::read(text), 2)
+    };
     Row::new(format!("{} t {}", K::LETTER, quoted(text)), answer)
 }
 
@@ -36,7 +42,7 @@ pub fn some_text<K: Kind>(random: &mut Random) -> Vec<u8> {
             3 => jumble(random),
             _ => spelled::<K>(random),
         };
-        if text.len() <= LONGEST {
+        if text.len() <= SHORT {
             return text;
         }
     }
@@ -84,6 +90,6 @@ fn damaged<K: Kind>(random: &mut Random) -> Vec<u8> {
 const ALPHABET: &[u8] = b"0123456789.-+";
 
 fn jumble(random: &mut Random) -> Vec<u8> {
-    let length = random.index(LONGEST + 1);
+    let length = random.index(SHORT + 1);
     (0..length).map(|_| random.pick(ALPHABET)).collect()
 }

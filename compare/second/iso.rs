@@ -6,7 +6,7 @@
 
 use crate::exchange;
 use crate::kinds::{Fields, Kind};
-use crate::listing::LONGEST_TEXT;
+use crate::text::LONGEST_TEXT;
 
 /// What was read, and the bytes after it.
 type Read<'t, T> = Option<(T, &'t [u8])>;

@@ -6,3 +6,4 @@ pub mod iso;
 pub mod kinds;
 pub mod listing;
 pub mod table;
+pub mod text;

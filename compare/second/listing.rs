@@ -3,15 +3,14 @@
 //! How the input falls into lines and a line into its parts is read from the page. Which text or
 //! number is a date, and the two texts of a date, are asked of the original.
 
+use crate::kinds::Kind;
+use crate::text;
 use eu5save::Eu5Date;
 use jomini::common::{Date, DateHour, PdsDate, RawDate, UniformDate};
 use vic3save::Vic3Date;
 
 /// "at most 65,535 bytes".
 const LONGEST_INPUT: usize = 65_535;
-
-/// Refusal 1: "text over 16 bytes".
-pub const LONGEST_TEXT: usize = 16;
 
 /// "dotted text, ISO text", or the number of the refusal.
 type Answer = Result<String, u8>;
@@ -57,12 +56,12 @@ fn answer(line: &[u8]) -> String {
 /// "Way t reads the rest as text".
 fn from_text(letter: u8, rest: &[u8]) -> Answer {
     match letter {
-        b'R' => read(rest, |text| RawDate::parse(text).ok()),
-        b'D' => read(rest, |text| Date::parse(text).ok()),
-        b'H' => read(rest, |text| DateHour::parse(text).ok()),
-        b'U' => read(rest, |text| UniformDate::parse(text).ok()),
-        b'E' => read(rest, |text| Eu5Date::parse(text).ok()),
-        b'V' => read(rest, |text| Vic3Date::parse(text).ok()),
+        b'R' => read(Kind::R, rest, |text| RawDate::parse(text).ok()),
+        b'D' => read(Kind::D, rest, |text| Date::parse(text).ok()),
+        b'H' => read(Kind::H, rest, |text| DateHour::parse(text).ok()),
+        b'U' => read(Kind::U, rest, |text| UniformDate::parse(text).ok()),
+        b'E' => read(Kind::E, rest, |text| Eu5Date::parse(text).ok()),
+        b'V' => read(Kind::V, rest, |text| Vic3Date::parse(text).ok()),
         _ => Err(8),
     }
 }
@@ -90,12 +89,8 @@ fn from_guess(letter: u8, rest: &[u8]) -> Answer {
     }
 }
 
-/// "text over 16 bytes" is 1, which comes before 2, "text not of that kind".
-fn read<K: PdsDate>(text: &[u8], parse: impl Fn(&[u8]) -> Option<K>) -> Answer {
-    if text.len() > LONGEST_TEXT {
-        return Err(1);
-    }
-    parse(text).map(texts).ok_or(2)
+fn read<K: PdsDate>(kind: Kind, rest: &[u8], parse: impl Fn(&[u8]) -> Option<K>) -> Answer {
+    text::read(kind, rest, parse).map(texts)
 }
 
 /// "no such number after way b or g" is 2; "number not a date, or guess refused" is 3.

@@ -18,6 +18,7 @@ mod page;
 mod script;
 mod table;
 mod table_script;
+mod text;
 
 use std::io::{self, Read, Write};
 

@@ -1,4 +1,4 @@
-//! What document 01 itself shows, and what requests #101 and #102 do, held against this reading.
+//! What document 01 itself shows, and what requests #101, #102 and #104 do, held against this reading.
 
 use crate::book::{self, Record};
 use crate::kinds::{Fields, Kind};
@@ -85,6 +85,7 @@ pub fn example() -> &'static str {
     try_small_book();
     try_small_table();
     try_iso_texts();
+    try_padded_years();
     EXAMPLE_INPUT
 }
 
@@ -131,7 +132,7 @@ fn try_small_table() {
 }
 
 /// "Read the ISO text of all six kinds, only in the spelling that document 01 writes." "E comes back
-/// with the even component of that in-game hour, so component 3 comes back as 2." A text over 16
+/// with the even component of that in-game hour, so component 3 comes back as 2." A text over 64
 /// bytes is 1, whatever else it is.
 fn try_iso_texts() {
     for (kind, text, date) in READ {
@@ -152,6 +153,37 @@ fn try_iso_texts() {
     let text = exchange::iso_text(Kind::E, date);
     assert_eq!(text, "1444-11-11T09");
     assert!(iso::read(Kind::E, text.as_bytes()) == Ok(Fields { hour: 2, ..date }));
-    assert!(iso::read(Kind::D, b"0000000-01-01-01") == Err(2));
-    assert!(iso::read(Kind::D, b"00000000-01-01-01") == Err(1));
+    assert!(iso::read(Kind::D, &padded(54, "1444-01-01")) == Err(2));
+    assert!(iso::read(Kind::D, &padded(55, "1444-01-01")) == Err(1));
+}
+
+/// The leading number's true decimal value decides: 2^64 + 1444 before `.1.1` is 2. 56 zeros before
+/// `1444.1.1` or `43808760` make 64 bytes, 57 make 65: 1. "D still takes 12 at most."
+fn try_padded_years() {
+    let lines = [
+        ("R", 56, "1444.1.1", "R 1444.1.1 1444-01-01"),
+        ("R", 57, "1444.1.1", "R refused 1"),
+        ("R", 0, "18446744073709553060.1.1", "R refused 2"),
+        ("U", 56, "43808760", "U 1.01.01 0001-01-01"),
+        ("U", 57, "43808760", "U refused 1"),
+        ("D", 4, "1444.1.1", "D 1444.1.1 1444-01-01"),
+        ("D", 5, "1444.1.1", "D refused 2"),
+        ("D", 56, "1444.1.1", "D refused 2"),
+        ("D", 57, "1444.1.1", "D refused 1"),
+        ("D", 56, "43808760", "D refused 2"),
+        ("D", 57, "43808760", "D refused 1"),
+    ];
+    for (letter, zeros, text, told) in lines {
+        let line = [format!("{letter} t ").into_bytes(), padded(zeros, text)].concat();
+        let output = listing::output(&line);
+        assert_eq!(
+            output,
+            format!("{told}\n").into_bytes(),
+            "{letter} {zeros} {text}"
+        );
+    }
+}
+
+fn padded(zeros: usize, text: &str) -> Vec<u8> {
+    [&vec![b'0'; zeros], text.as_bytes()].concat()
 }

@@ -33,13 +33,20 @@ impl Date {
         Ok(Date { bits })
     }
 
-    /// The date of a text, or of a number's text; refusal 1 for a text over 16 bytes, 2 for one that is no date's.
+    /// The date of a text, or of a number's text; refusal 1 for a text over 64 bytes, 2 for one that is no date's. D's
+    /// texts have 12 bytes at most, zeros before the year or the number among them: one of 13 to 64 bytes is 2.
     ///
     /// ```
     /// use pennyquill::{Date, Refusal};
     /// assert_eq!(Date::parse("1444.11.11"), Date::from_ymd_opt(1444, 11, 11));
     /// assert_eq!(Date::parse("43808760"), Date::from_ymd_opt(1, 1, 1));
     /// assert_eq!(Date::parse("1444.11.11.1"), Err(Refusal::NotText));
+    ///
+    /// let padded = |zeros: usize| Date::parse("0".repeat(zeros) + "1444.1.1");
+    /// assert_eq!(padded(4), Date::from_ymd_opt(1444, 1, 1));
+    /// assert_eq!(padded(5), Err(Refusal::NotText));
+    /// assert_eq!(padded(56), Err(Refusal::NotText));
+    /// assert_eq!(padded(57), Err(Refusal::TextTooLong));
     /// ```
     pub fn parse<T: AsRef<[u8]>>(text: T) -> Result<Self, Refusal> {
         let bits = bits::read(ffi::pq_read_text, Self::KIND, text.as_ref())?;
@@ -47,7 +54,7 @@ impl Date {
     }
 
     /// The date of an ISO text, as [`iso_8601`](PdsDate::iso_8601) writes it and in no other spelling; one with an hour
-    /// is none of D's. Refusal 1 for a text over 16 bytes, 2 for any other that is no date's. Not in jomini.
+    /// is none of D's. Refusal 1 for a text over 64 bytes, 2 for any other that is no date's. Not in jomini.
     ///
     /// ```
     /// use pennyquill::{Date, Refusal};

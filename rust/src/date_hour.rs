@@ -33,8 +33,9 @@ impl DateHour {
         Ok(DateHour { bits })
     }
 
-    /// The date of a text, or of a number's text with an hour of 1 or more; refusal 1 for a text over 16 bytes, 2 for
-    /// one that is no date's.
+    /// The date of a text, or of a number's text with an hour of 1 or more; refusal 1 for a text over 64 bytes, 2 for
+    /// one that is no date's. The year or the number may have zeros before it, as in
+    /// [`UniformDate::parse`](crate::UniformDate::parse).
     ///
     /// ```
     /// use pennyquill::{DateHour, Refusal};
@@ -47,7 +48,7 @@ impl DateHour {
     }
 
     /// The date of an ISO text, as [`iso_8601`](PdsDate::iso_8601) writes it and in no other spelling: always with an
-    /// hour, which runs from 0 there. Refusal 1 for a text over 16 bytes, 2 for any other that is no date's. Not in
+    /// hour, which runs from 0 there. Refusal 1 for a text over 64 bytes, 2 for any other that is no date's. Not in
     /// jomini.
     ///
     /// ```

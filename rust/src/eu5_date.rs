@@ -37,8 +37,8 @@ impl Eu5Date {
         Ok(Eu5Date { bits })
     }
 
-    /// The date of a text; refusal 1 for one over 16 bytes, 2 for one that is no date's. Hour 23 becomes 22. It reads
-    /// no number's text.
+    /// The date of a text; refusal 1 for one over 64 bytes, 2 for one that is no date's. Hour 23 becomes 22. It reads
+    /// no number's text. The year may have zeros before it, as in [`RawDate::parse`](crate::RawDate::parse).
     ///
     /// ```
     /// use pennyquill::{Eu5Date, Refusal};
@@ -52,7 +52,7 @@ impl Eu5Date {
 
     /// The date of an ISO text, as [`iso_8601`](PdsDate::iso_8601) writes it and in no other spelling: always with an
     /// hour, so that the date alone, as [`date_fmt`](Self::date_fmt) writes it, is refused. The hour is the one in the
-    /// game, and its even hour component comes back. Refusal 1 for a text over 16 bytes, 2 for any other that is no
+    /// game, and its even hour component comes back. Refusal 1 for a text over 64 bytes, 2 for any other that is no
     /// date's. Not in jomini.
     ///
     /// ```

@@ -35,13 +35,24 @@ impl RawDate {
         Ok(RawDate { bits })
     }
 
-    /// The date of a text; refusal 1 for one over 16 bytes, 2 for one that is no date's. It reads no number's text.
+    /// The date of a text; refusal 1 for one over 64 bytes, 2 for one that is no date's. It reads no number's text.
     ///
     /// ```
     /// use pennyquill::{RawDate, Refusal};
     /// assert_eq!(RawDate::parse("1444.1.1.6"), RawDate::from_ymdh_opt(1444, 1, 1, 6));
     /// assert_eq!(RawDate::parse("1444.1.1.06"), Err(Refusal::NotText));
-    /// assert_eq!(RawDate::parse("0000000001444.1.1"), Err(Refusal::TextTooLong));
+    /// ```
+    ///
+    /// The year may have zeros before it, as many as fit, and its true value decides:
+    ///
+    /// ```
+    /// use pennyquill::{RawDate, Refusal};
+    /// let padded = |zeros: usize| RawDate::parse("0".repeat(zeros) + "1444.1.1");
+    /// assert_eq!(padded(56), RawDate::from_ymdh_opt(1444, 1, 1, 0));
+    /// assert_eq!(padded(57), Err(Refusal::TextTooLong));
+    ///
+    /// // 2^64 + 1444 is a year of no date, and never 1444.
+    /// assert_eq!(RawDate::parse("18446744073709553060.1.1"), Err(Refusal::NotText));
     /// ```
     pub fn parse<T: AsRef<[u8]>>(text: T) -> Result<Self, Refusal> {
         let bits = bits::read(ffi::pq_read_text, Self::KIND, text.as_ref())?;
@@ -49,7 +60,7 @@ impl RawDate {
     }
 
     /// The date of an ISO text, as [`iso_8601`](PdsDate::iso_8601) writes it and in no other spelling, with an hour or
-    /// without one. Refusal 1 for a text over 16 bytes, 2 for any other that is no date's. Not in jomini.
+    /// without one. Refusal 1 for a text over 64 bytes, 2 for any other that is no date's. Not in jomini.
     ///
     /// ```
     /// use pennyquill::{RawDate, Refusal};
@@ -57,7 +68,9 @@ impl RawDate {
     /// assert_eq!(RawDate::from_iso_8601("1444-02-31T00"), RawDate::parse("1444.2.31.1"));
     /// assert_eq!(RawDate::from_iso_8601("1444-02-31T23"), RawDate::parse("1444.2.31.24"));
     /// assert_eq!(RawDate::from_iso_8601("1444-02-31T24"), Err(Refusal::NotText));
-    /// assert_eq!(RawDate::from_iso_8601("1444-02-31T23:00Z"), Err(Refusal::TextTooLong));
+    /// assert_eq!(RawDate::from_iso_8601("1444-02-31T23:00Z"), Err(Refusal::NotText));
+    /// assert_eq!(RawDate::from_iso_8601("01444-02-31"), Err(Refusal::NotText));
+    /// assert_eq!(RawDate::from_iso_8601([b'0'; 65]), Err(Refusal::TextTooLong));
     /// ```
     pub fn from_iso_8601<T: AsRef<[u8]>>(text: T) -> Result<Self, Refusal> {
         let bits = bits::read(ffi::pq_read_iso, Self::KIND, text.as_ref())?;

@@ -14,7 +14,7 @@ use std::fmt;
 /// ```
 #[derive(Clone, Copy, Debug, PartialEq, Eq, Hash)]
 pub enum Refusal {
-    /// 1: a text over 16 bytes.
+    /// 1: a text over 64 bytes.
     TextTooLong,
     /// 2: a text that is no date of the kind.
     NotText,
@@ -104,7 +104,7 @@ impl Refusal {
 
     fn sentence(self) -> &'static str {
         match self {
-            Refusal::TextTooLong => "the text is over 16 bytes",
+            Refusal::TextTooLong => "the text is over 64 bytes",
             Refusal::NotText => "the text is not that of a date of this kind",
             Refusal::NotNumber => {
                 "the number is not that of a date of this kind, or is not guessed to be one"

@@ -32,12 +32,18 @@ impl UniformDate {
         Ok(UniformDate { bits })
     }
 
-    /// The date of a text, or of a number's text; refusal 1 for a text over 16 bytes, 2 for one that is no date's.
+    /// The date of a text, or of a number's text; refusal 1 for a text over 64 bytes, 2 for one that is no date's. The
+    /// year or the number may have zeros before it, as many as fit, and its true value decides.
     ///
     /// ```
     /// use pennyquill::{Refusal, UniformDate};
     /// assert_eq!(UniformDate::parse("2205.02.30"), UniformDate::from_ymd_opt(2205, 2, 30));
     /// assert_eq!(UniformDate::parse("720"), Err(Refusal::NotText)); // 31 January
+    ///
+    /// let padded = |zeros: usize| UniformDate::parse("0".repeat(zeros) + "43808760");
+    /// assert_eq!(padded(56), UniformDate::from_ymd_opt(1, 1, 1));
+    /// assert_eq!(padded(57), Err(Refusal::TextTooLong));
+    /// assert_eq!(UniformDate::parse("18446744073753360376"), Err(Refusal::NotText)); // 2^64 + 43808760
     /// ```
     pub fn parse<T: AsRef<[u8]>>(text: T) -> Result<Self, Refusal> {
         let bits = bits::read(ffi::pq_read_text, Self::KIND, text.as_ref())?;
@@ -45,7 +51,7 @@ impl UniformDate {
     }
 
     /// The date of an ISO text, as [`iso_8601`](PdsDate::iso_8601) writes it and in no other spelling; one with an hour
-    /// is none of U's. Refusal 1 for a text over 16 bytes, 2 for any other that is no date's. Not in jomini.
+    /// is none of U's. Refusal 1 for a text over 64 bytes, 2 for any other that is no date's. Not in jomini.
     ///
     /// ```
     /// use pennyquill::{Refusal, UniformDate};

@@ -34,7 +34,8 @@ impl Vic3Date {
         Ok(Vic3Date { bits })
     }
 
-    /// The date of a text; refusal 1 for one over 16 bytes, 2 for one that is no date's. It reads no number's text.
+    /// The date of a text; refusal 1 for one over 64 bytes, 2 for one that is no date's. It reads no number's text. The
+    /// year may have zeros before it, as in [`RawDate::parse`](crate::RawDate::parse).
     ///
     /// ```
     /// use pennyquill::{Refusal, Vic3Date};
@@ -47,7 +48,7 @@ impl Vic3Date {
     }
 
     /// The date of an ISO text, as [`iso_8601`](PdsDate::iso_8601) writes it and in no other spelling: always with an
-    /// hour. Refusal 1 for a text over 16 bytes, 2 for any other that is no date's. Not in jomini.
+    /// hour. Refusal 1 for a text over 64 bytes, 2 for any other that is no date's. Not in jomini.
     ///
     /// ```
     /// use pennyquill::{Refusal, Vic3Date};

@@ -13,7 +13,7 @@ use kinds::Made;
 use number::Numbered;
 
 // The most bytes that a text may have.
-pub const TEXT_LIMIT: usize = 16;
+pub const TEXT_LIMIT: usize = 64;
 
 // R, V and E refuse a number text.
 fn reads_number_texts(kind: Kind) -> bool

@@ -9,6 +9,9 @@ use crate::parts;
 use crate::quoted;
 use kinds::Kind;
 
+// Room for the text of a row: for one of 64 bytes, the most that a text may have, and for those past it that are asked.
+const TEXT_ROOM: usize = 96;
+
 // What a row with the letter of a kind asks, but for the texts of a date.
 pub(crate) fn of_kind(row: &[u8], kind: Kind) -> Told {
     match rows::byte(row, 2) {
@@ -27,7 +30,7 @@ pub(crate) fn of_kind(row: &[u8], kind: Kind) -> Told {
 }
 
 fn text(row: &[u8], kind: Kind) -> Told {
-    let mut buffer = [0u8; 64];
+    let mut buffer = [0u8; TEXT_ROOM];
     let quoted = quoted::text(row, rows::after_word(row, 1, b" t "), &mut buffer);
     let length = quoted.length;
     if rows::ends(row, quoted.next) {
@@ -37,7 +40,7 @@ fn text(row: &[u8], kind: Kind) -> Told {
 }
 
 fn iso(row: &[u8], kind: Kind) -> Told {
-    let mut buffer = [0u8; 64];
+    let mut buffer = [0u8; TEXT_ROOM];
     let quoted = quoted::text(row, rows::after_word(row, 1, b" i "), &mut buffer);
     let length = quoted.length;
     if rows::ends(row, quoted.next) {
@@ -129,7 +132,7 @@ pub(crate) fn of_leaf(row: &[u8]) -> LeafTold {
 }
 
 fn leading(row: &[u8]) -> LeafTold {
-    let mut buffer = [0u8; 64];
+    let mut buffer = [0u8; TEXT_ROOM];
     let quoted = quoted::text(row, rows::after_word(row, 0, b"leading "), &mut buffer);
     let length = quoted.length;
     if rows::ends(row, quoted.next) {

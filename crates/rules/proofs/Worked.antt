@@ -2,5 +2,6 @@
 pub mod Cases
 pub mod Pairs
 pub mod Bounds
+pub mod Padded
 pub mod Texts
 pub mod Lines

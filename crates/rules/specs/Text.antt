@@ -22,7 +22,8 @@ pub record Read (A : Type 0) : Type 0 where
   pub value : A
   pub rest : List ℕ
 
--- ---- the leading number: "a digit, `-` or `+`, then digits; a sign alone is 0"
+-- ---- the leading number: "a digit, `-` or `+`, then digits; a sign alone is 0"; by #104 of document 02 with its "true decimal value
+-- deciding and never its value after wrapping": a number of ℤ, of any size
 
 -- the digits that a text starts with, and what follows them
 unfoldable pub digits : List ℕ → List ℕ
@@ -127,7 +128,7 @@ abbrev pub startsWithPlus : List ℕ → Bool
 startsWithPlus [] = false
 startsWithPlus (b ∷ s) = eqb b (byte "+")
 
--- "D also refuses lengths below 5 or above 12. D refuses a leading `+`, except" as above
+-- "D also refuses lengths below 5 or above 12. D refuses a leading `+`, except" as above. #104: "D still takes 12 at most."
 unfoldable pub shapeAllowed : Kind → List ℕ → Bool
 shapeAllowed kR s = true
 shapeAllowed kD s = within 5 12 (length s) && (not (startsWithPlus s) || plusAllowed s)
@@ -138,9 +139,9 @@ shapeAllowed kV s = true
 
 -- ---- a text
 
--- the most bytes that a text may have
+-- the most bytes that a text may have: document 01's 16, and #104 of document 02: "Raise the text limit from 16 to 64 bytes"
 abbrev pub textLimit : ℕ
-textLimit = 16
+textLimit = 64
 
 -- the fields of what follows the leading number
 unfoldable pub textFields : Kind → Read ℤ → Answer Fields

@@ -127,6 +127,17 @@ iso-not-text k s = (
     refused l none (gives {a = f} n) = absurd (none f n)
     refused l none (refuses n) = ap Refused (n ∙ ap (λ (t : Bool). cond t notText tooLong) (le-leb (length s) textLimit l))
 
+-- no ISO text has over 15 bytes: from 16 to the limit a text is 2 (#104 moved the limit alone)
+pub iso-fifteen-at-most : (k : Kind) (s : List ℕ) → 15 < length s → length s ≤ textLimit → readIso k s ≡ Refused notText
+unfolding comesBack
+iso-fifteen-at-most k s long fits = iso-not-text k s .1 (fits, none)
+  where
+    none : (f : Fields) → Names k s f → ⊥
+    none f n =
+        let l = text-lengths k f (left (ofKind k f) (evenHour k (f .hour)) (n .0)) .iso-length in
+        let e = ap length (n .1) in
+        omega arith
+
 -- ---- every date's ISO text: R, D, H, U and V come back as they are, E with the even component
 
 hour-same : (k : Kind) (h : ℕ) → isoHour k (evened k h) ≡ isoHour k h

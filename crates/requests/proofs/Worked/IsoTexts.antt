@@ -1,10 +1,10 @@
 -- Worked cases of #102, each list one theorem by computation: the request's own examples, both sides of every bound, both refusals and
 -- their order. Assumes nothing.
 use mathlib.Core.Path.{_≡_, refl}
-use mathlib.Core.List.{List, [], _∷_}
+use mathlib.Core.List.{List, [], _∷_, _++_}
 use lib.IntN.{pos, negsuc}
 use lib.ListN.{replicate}
-use Rattle.rules.specs.Words.{bytes, sameBytes}
+use Rattle.rules.specs.Words.{byte, bytes, sameBytes}
 use Rattle.rules.specs.Refusals.{Answer, Refused}
 use Rattle.rules.specs.Calendar.{lengths, monthLength}
 use Rattle.rules.specs.Kinds.{kR, kD, kH, kU, kE, kV, Fields, fitsKind, ofKind, made, settled}
@@ -82,12 +82,14 @@ texts =
     ∷ (readIso kV (bytes "1444-11-11T6") is Refused 2)
     ∷ (readIso kV (bytes "1444-11-11T006") is Refused 2)
     ∷ (readIso kV (bytes "1444-11-11t06") is Refused 2)
-    -- the limit: 1 from 17 bytes on, and before 2
+    -- the limit, of #104: 1 from 65 bytes on, and before 2; no date's ISO text comes near it
     ∷ (readIso kR (bytes "-32768-12-31T23") is date (negsuc 32767) 12 31 24)
     ∷ (readIso kR (bytes "-32768-12-31T230") is Refused 2)
-    ∷ (readIso kR (bytes "-32768-12-31T2300") is Refused 1)
-    ∷ (readIso kD (replicate 16 120) is Refused 2)
-    ∷ (readIso kD (replicate 17 120) is Refused 1)
+    ∷ (readIso kR (bytes "-32768-12-31T2300") is Refused 2)
+    ∷ (readIso kD (replicate 54 (byte "0") ++ bytes "1444-11-11") is Refused 2)
+    ∷ (readIso kD (replicate 55 (byte "0") ++ bytes "1444-11-11") is Refused 1)
+    ∷ (readIso kD (replicate 64 (byte "x")) is Refused 2)
+    ∷ (readIso kD (replicate 65 (byte "x")) is Refused 1)
     ∷ (readIso kD [] is Refused 2)
     ∷ []
 

@@ -17,7 +17,7 @@ zeros-digits : {s : List ℕ} (m : ℕ) → OnlyDigits s → OnlyDigits (replica
 zeros-digits zero d = d
 zeros-digits (suc m) d = next refl (zeros-digits m d)
 
-zeros-value : (m : ℕ) (s : List ℕ) → decimalValue (replicate m (digit 0) ++ s) ≡ decimalValue s
+pub zeros-value : (m : ℕ) (s : List ℕ) → decimalValue (replicate m (digit 0) ++ s) ≡ decimalValue s
 unfolding decimalValue
 zeros-value zero s = refl
 zeros-value (suc m) s = let e = zeros-value m s in omega arith

@@ -2,7 +2,8 @@
 use Prim.Native.Nat.{ℕ}
 use mathlib.Core.Path.{_≡_, refl}
 use mathlib.Core.List.{List, [], _∷_, _++_}
-use Rattle.rules.specs.Words.{bytes}
+use lib.ListN.{replicate}
+use Rattle.rules.specs.Words.{byte, bytes}
 use Rattle.rules.specs.Calendar.{lengths, monthLength, walk, monthDay}
 use Rattle.rules.specs.Kinds.{fitsKind, ofKind, made, settled}
 use Rattle.rules.specs.Numbers.{numberFields, decoded, readNumber, guessNumber}
@@ -51,7 +52,13 @@ oneLine =
     ∷ (lineOutput (bytes "D b -2147483649") is (bytes "D refused 2" line []))
     ∷ (lineOutput (bytes "D b 5 ") is (bytes "D refused 2" line []))
     ∷ (lineOutput (bytes "D g 42924000") is (bytes "D refused 3" line []))
-    ∷ (lineOutput (bytes "D t 0000000001444.1.1") is (bytes "D refused 1" line []))
+    ∷ (lineOutput (bytes "D t 0000000001444.1.1") is (bytes "D refused 2" line []))
+    ∷ (lineOutput (bytes "R t " ++ replicate 56 (byte "0") ++ bytes "1444.1.1") is (bytes "R 1444.1.1 1444-01-01" line []))
+    ∷ (lineOutput (bytes "R t " ++ replicate 57 (byte "0") ++ bytes "1444.1.1") is (bytes "R refused 1" line []))
+    ∷ (lineOutput (bytes "D b " ++ replicate 56 (byte "0") ++ bytes "43808760") is (bytes "D refused 2" line []))
+    ∷ (lineOutput (bytes "D g " ++ replicate 56 (byte "0") ++ bytes "43808760") is (bytes "D refused 2" line []))
+    ∷ (lineOutput (bytes "D g 0043808760") is (bytes "D 1.1.1 0001-01-01" line []))
+    ∷ (lineOutput (bytes "D g 00043808760") is (bytes "D refused 2" line []))
     ∷ (lineOutput (bytes "D t  1444.1.1") is (bytes "D refused 2" line []))
     ∷ (lineOutput (bytes "E t -5.1.1.1") is (bytes "E -5.1.1.1 -005-01-01T08" line []))
     ∷ []

@@ -1,6 +1,6 @@
 //! ISO texts by the six readers, which the original lacks: held against the second reading of request
 //! #102. Every date's text read back, every text over small alphabets, each byte of valid texts
-//! replaced by every other, texts over 16 bytes, and generated ones.
+//! replaced by every other, such texts made too long, and generated ones.
 
 use crate::kinds::Fields;
 use crate::original::{Coded, bits, days, gives, refused, with};
@@ -16,6 +16,7 @@ use pennyquill::ffi::{self, Answer};
 use second_reading::iso;
 use second_reading::kinds::{KINDS, Kind};
 use std::collections::BTreeSet;
+use std::ops::RangeInclusive;
 
 /// What an ISO text may have, in few digits; and with another digit and the other sign.
 const FEW: &[u8; 4] = b"01-T";
@@ -47,9 +48,11 @@ pub fn run(extent: Extent, report: &mut Report) {
     let count = texts.len();
     let name = format!("ISO texts: each byte of {count} valid ones, all 256, six kinds");
     report.row(&name, Covers::All, replaced(&texts, ask_all));
-    let name = "ISO texts: 17 to 40 bytes, six kinds";
     let count = extent.pick(20_000, 500_000);
-    report.row(name, Covers::Sample, long(&texts, count));
+    let name = "ISO texts: 17 to 64 bytes, six kinds";
+    report.row(name, Covers::Sample, long(&texts, 17..=64, count));
+    let name = "ISO texts: 65 to 100 bytes, six kinds";
+    report.row(name, Covers::Sample, long(&texts, 65..=100, count));
     generated(extent.pick(600_000, 10_000_000), report);
 }
 
@@ -140,13 +143,14 @@ fn text_of<K: Coded>(year: i16, (month, day, hour): (u8, u8, u8)) -> Vec<u8> {
     date.iso_8601().to_string().into_bytes()
 }
 
-/// Such texts made too long: 1, whatever they say.
-fn long(texts: &[Vec<u8>], count: u64) -> Tally {
+/// Such texts made too long for an ISO text, which has at most 15 bytes: 2, and above 64 bytes 1.
+fn long(texts: &[Vec<u8>], lengths: RangeInclusive<usize>, count: u64) -> Tally {
     share(PARTS, |part, tally| {
         let mut random = Random::new(part);
         for _ in 0..count / PARTS {
             let place = random.index(texts.len());
-            ask_all(tally, &lengthened(&mut random, &texts[place]));
+            let text = lengthened(&mut random, &texts[place], lengths.clone());
+            ask_all(tally, &text);
         }
     })
 }

@@ -5,11 +5,16 @@ use crate::original::{Coded, bits, gives, or_refused, refused};
 use crate::port;
 use crate::report::{Covers, Extent, Report};
 use crate::tally::{Tally, share};
+use crate::texts::{SHORT, question};
 use crate::years::years;
 use jomini::leaves;
 use pennyquill::ffi::{self, Answer, Number};
+use second_reading::text::LONGEST_TEXT;
 
 const QUICK_STEP: i16 = 97;
+
+/// So many bytes stand before `.1.1` in the longest short text, and in the longest text that is read.
+const BEFORE_PARTS: [usize; 2] = [SHORT - 4, LONGEST_TEXT - 4];
 
 pub fn run(extent: Extent, report: &mut Report) {
     let name = "leaf `to_i64_t`, through R's years and U's number texts";
@@ -34,7 +39,8 @@ fn parts_of((year, month, day, hour): (i16, u8, u8, u8)) -> Fields {
     Fields::new(year, month, day, hour)
 }
 
-/// Every text of up to so many bytes over digits and signs, alone and after zeros.
+/// Every text of up to so many bytes over digits and signs, alone and twice after zeros: so many of them
+/// that `TEXT.1.1` has 16 bytes, and 64.
 fn leading_numbers(longest: u32) -> Tally {
     const LETTERS: &[u8; 12] = b"0123456789+-";
     let count: u64 = (0..=longest).map(|length| 12_u64.pow(length)).sum();
@@ -43,8 +49,9 @@ fn leading_numbers(longest: u32) -> Tally {
         for place in (part..count).step_by(PARTS as usize) {
             let text = nth_text(LETTERS, place);
             leading_number(tally, &text);
-            if let Some(zeros) = 12_usize.checked_sub(text.len()) {
-                leading_number(tally, &[&vec![b'0'; zeros], text.as_slice()].concat());
+            for length in BEFORE_PARTS {
+                let zeros = vec![b'0'; length - text.len()];
+                leading_number(tally, &[zeros, text.clone()].concat());
             }
         }
     })
@@ -82,8 +89,7 @@ fn leading_number(tally: &mut Tally, text: &[u8]) {
 }
 
 fn hold_text<K: Coded>(tally: &mut Tally, right: Answer, text: &[u8]) {
-    let asked = || format!("{} t {:?}", K::LETTER, text.escape_ascii().to_string());
-    tally.hold(right, port::read(K::CODE, text), asked);
+    tally.hold(right, port::read(K::CODE, text), || question::<K>(text));
 }
 
 /// All words of digits, and words with one byte of any value.

@@ -1,6 +1,7 @@
 //! The lines of `datelist`, which the original lacks: the program's output against the second reading.
 
-use crate::drawn;
+use crate::drawn::{self, Draft, KINDS};
+use crate::long_texts;
 use crate::random::Random;
 use crate::report::{Covers, Extent, Report};
 use crate::tally::Tally;
@@ -74,13 +75,14 @@ fn output(command: &str, input: &[u8]) -> Vec<u8> {
 fn input(random: &mut Random) -> Vec<u8> {
     let mut input = Vec::new();
     while input.len() < LONGEST_INPUT - 100 {
-        let kind = random.pick(&['R', 'D', 'H', 'U', 'E', 'V']);
+        let kind = random.pick(&KINDS);
         let way = random.pick(b"tttbbg");
         let mut line = vec![kind as u8, b' ', way, b' '];
-        match way {
-            b't' => line.extend(drawn::text(random, kind).text()),
-            _ => line.extend(number(random)),
-        }
+        let rest = match way {
+            b't' => text(random, kind),
+            _ => number(random),
+        };
+        line.extend(rest.text());
         if random.chance(10) {
             let place = random.index(line.len());
             line[place] = random.byte();
@@ -91,12 +93,31 @@ fn input(random: &mut Random) -> Vec<u8> {
     input
 }
 
-fn number(random: &mut Random) -> Vec<u8> {
+/// One in four has 17 to 70 bytes.
+fn text(random: &mut Random, kind: char) -> Draft {
+    if random.index(4) > 0 {
+        return drawn::text(random, kind);
+    }
+    let length = 17 + random.index(54);
+    long_texts::text(random, kind, length)
+}
+
+/// One in four has zeros before it, where 9, 10, 11 or 12 digits need them.
+fn number(random: &mut Random) -> Draft {
     let number = match random.index(6) {
         0 => random.between(i32::MIN.into(), i32::MAX.into()),
         1 => random.between(-20_000_000_000, 20_000_000_000),
         2 => random.between(-28_000, 0) * 8760,
         _ => random.between(0, 330_847_679),
     };
-    number.to_string().into_bytes()
+    let width = match random.index(4) {
+        0 => 9 + random.index(4),
+        _ => 1,
+    };
+    let mut draft = Draft::new();
+    if number < 0 {
+        draft.push(b'-');
+    }
+    draft.number(number.unsigned_abs(), width);
+    draft
 }

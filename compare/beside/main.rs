@@ -12,6 +12,7 @@ mod random;
 #[macro_use]
 mod original;
 mod books;
+mod counts;
 mod days;
 mod drawn;
 mod fields;
@@ -20,7 +21,10 @@ mod handed_in;
 mod iso_texts;
 mod leaves;
 mod lines;
+mod long_numbers;
+mod long_texts;
 mod numbers;
+mod padded;
 mod port;
 mod report;
 mod spellings;
@@ -38,11 +42,12 @@ use std::process::ExitCode;
 type Subject = fn(Extent, &mut Report);
 
 /// What takes longest comes last.
-const SUBJECTS: [(&str, Subject); 12] = [
+const SUBJECTS: [(&str, Subject); 13] = [
     ("numbers", numbers::run),
     ("fields", fields::run),
     ("texts", texts::run),
     ("generated", generated::run),
+    ("padded", padded::run),
     ("handed_in", handed_in::run),
     ("leaves", leaves::run),
     ("books", books::run),

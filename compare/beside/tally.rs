@@ -35,7 +35,7 @@ pub const LISTED: [(Listed, &str); 7] = [
     ),
     (
         Listed::LongText,
-        "a text over 16 bytes that the Rust reads: here 1",
+        "a text over 64 bytes that the Rust reads: here 1",
     ),
     (
         Listed::NoDate,

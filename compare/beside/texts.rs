@@ -1,12 +1,10 @@
-//! Texts by the six readers: every text over small alphabets, all digits in D's fast shapes, each byte
-//! of valid texts replaced by every other, and texts over 16 bytes.
+//! Texts of up to 16 bytes by the six readers: every text over small alphabets, all digits in D's fast
+//! shapes, and each byte of valid texts replaced by every other. Longer ones are those of `padded`.
 
-use crate::drawn;
-use crate::original::{Coded, read, refused};
+use crate::original::{Coded, read};
 use crate::port;
-use crate::random::Random;
 use crate::report::{Covers, Extent, Report};
-use crate::tally::{Listed, Tally, share};
+use crate::tally::{Tally, share};
 use crate::valid_texts;
 use std::ops::RangeInclusive;
 
@@ -19,7 +17,8 @@ const FEW: &[u8; 6] = b"019.+-";
 /// D's fast shapes, with the digits as `d`.
 const SHAPES: [&[u8]; 4] = [b"dddd.d.d", b"dddd.dd.d", b"dddd.d.dd", b"dddd.dd.dd"];
 
-pub const LONGEST: usize = 16;
+/// The longest of the short texts; a text may be longer.
+pub const SHORT: usize = 16;
 
 pub fn run(extent: Extent, report: &mut Report) {
     let most = extent.pick(5, 6);
@@ -31,15 +30,11 @@ pub fn run(extent: Extent, report: &mut Report) {
     let step = extent.pick(101, 1);
     let name = "all digits in D's four fast shapes, six kinds";
     report.row(name, extent.covers_all(), shapes(step));
-    let texts = valid_texts::all(extent.pick(3, 40));
+    let texts = valid_texts::all(5..=SHORT, extent.pick(3, 40));
     let count = texts.len();
-    let name = format!("each byte of {count} valid texts of 5 to 16 bytes, all 256, six kinds");
+    let name =
+        format!("each byte of {count} valid texts of 5 to {SHORT} bytes, all 256, six kinds");
     report.row(&name, Covers::All, replaced(&texts, ask_all));
-    report.row(
-        "texts of 17 to 40 bytes, six kinds",
-        Covers::Sample,
-        long(extent.pick(20_000, 500_000)),
-    );
 }
 
 pub fn ask_all(tally: &mut Tally, text: &[u8]) {
@@ -49,9 +44,12 @@ pub fn ask_all(tally: &mut Tally, text: &[u8]) {
 #[inline]
 pub fn ask<K: Coded>(tally: &mut Tally, text: &[u8]) -> bool {
     let right = read::<K>(text);
-    let asked = || format!("{} t {:?}", K::LETTER, text.escape_ascii().to_string());
-    tally.hold(right, port::read(K::CODE, text), asked);
+    tally.hold(right, port::read(K::CODE, text), || question::<K>(text));
     right.refusal == 0
+}
+
+pub fn question<K: Coded>(text: &[u8]) -> String {
+    format!("{} t {:?}", K::LETTER, text.escape_ascii().to_string())
 }
 
 /// Asks every text of these lengths over the alphabet.
@@ -65,7 +63,7 @@ pub fn over<const N: usize>(
     let lengths: Vec<u32> = lengths.collect();
     share(lengths.len() as u64 * firsts, |part, tally| {
         let (length, first) = (lengths[(part / firsts) as usize], (part % firsts) as usize);
-        let mut text = [0; LONGEST];
+        let mut text = [0; SHORT];
         let text = &mut text[..length as usize];
         let fixed = text.len().min(2);
         // Where there are fewer than two letters, only the parts that say nothing of the others are done.
@@ -94,7 +92,7 @@ fn shapes(step: usize) -> Tally {
         let digits = shape.iter().filter(|&&byte| byte == b'd').count() as u32;
         let tally = share(10_u64.pow(digits) / PART, |part, tally| {
             for number in (part * PART..(part + 1) * PART).step_by(step) {
-                let mut text = [0; LONGEST];
+                let mut text = [0; SHORT];
                 fill(shape, &mut text, number);
                 ask_all(tally, &text[..shape.len()]);
             }
@@ -103,7 +101,7 @@ fn shapes(step: usize) -> Tally {
     })
 }
 
-fn fill(shape: &[u8], text: &mut [u8; LONGEST], mut number: u64) {
+fn fill(shape: &[u8], text: &mut [u8; SHORT], mut number: u64) {
     for (byte, &part) in text[..shape.len()].iter_mut().zip(shape).rev() {
         *byte = part;
         if part == b'd' {
@@ -126,26 +124,4 @@ pub fn replaced(texts: &[Vec<u8>], ask: impl Fn(&mut Tally, &[u8]) + Sync) -> Ta
             text[place] = byte;
         }
     })
-}
-
-/// Whatever such a text says, it is 1 here.
-fn long(count: u64) -> Tally {
-    const PARTS: u64 = 20;
-    share(PARTS, |part, tally| {
-        let mut random = Random::new(100 + part);
-        for _ in 0..count / PARTS {
-            let kind = random.pick(&['R', 'D', 'H', 'U', 'E', 'V']);
-            let draft = drawn::text(&mut random, kind);
-            let text = valid_texts::lengthened(&mut random, draft.text());
-            for_all_six!(ask_long(tally, &text));
-        }
-    })
-}
-
-fn ask_long<K: Coded>(tally: &mut Tally, text: &[u8]) {
-    if K::read(text).is_some() {
-        tally.met(Listed::LongText);
-    }
-    let asked = || format!("{} t {:?}", K::LETTER, text.escape_ascii().to_string());
-    tally.hold(refused(1), port::read(K::CODE, text), asked);
 }

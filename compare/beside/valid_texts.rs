@@ -3,30 +3,30 @@
 use crate::drawn;
 use crate::original::Coded;
 use crate::random::Random;
-use crate::texts::LONGEST;
 use std::collections::BTreeSet;
+use std::ops::RangeInclusive;
 
 /// So many draws are made for each kind; some lengths come up seldom.
 const DRAWS: usize = 300_000;
-const SHORTEST: usize = 5;
 
-/// For each kind and each length, up to `count` texts.
-pub fn all(count: usize) -> Vec<Vec<u8>> {
+/// For each kind and each of these lengths, up to `count` texts.
+pub fn all(lengths: RangeInclusive<usize>, count: usize) -> Vec<Vec<u8>> {
     let mut texts = BTreeSet::new();
-    for_all_six!(add(&mut texts, count));
+    for_all_six!(add(&mut texts, &lengths, count));
     texts.into_iter().collect()
 }
 
-fn add<K: Coded>(texts: &mut BTreeSet<Vec<u8>>, count: usize) {
+fn add<K: Coded>(texts: &mut BTreeSet<Vec<u8>>, lengths: &RangeInclusive<usize>, count: usize) {
     let mut random = Random::new(50 + u64::from(K::CODE));
-    let mut found = [0; LONGEST + 1];
+    let longest = *lengths.end();
+    let mut found = vec![0; longest + 1];
     for _ in 0..DRAWS {
         let mut text = drawn::text(&mut random, K::LETTER).text().to_vec();
         if random.chance(50) {
-            text = filled(&mut random, &text);
+            text = filled(&mut random, &text, longest);
         }
         let length = text.len();
-        let is_wanted = (SHORTEST..=LONGEST).contains(&length) && found[length] < count;
+        let is_wanted = lengths.contains(&length) && found[length] < count;
         if is_wanted && K::read(&text).is_some() && texts.insert(text) {
             found[length] += 1;
         }
@@ -34,23 +34,19 @@ fn add<K: Coded>(texts: &mut BTreeSet<Vec<u8>>, count: usize) {
 }
 
 /// With zeros before the year, up to the longest text.
-fn filled(random: &mut Random, text: &[u8]) -> Vec<u8> {
-    let zeros = random.index(1 + LONGEST.saturating_sub(text.len()));
-    with_zeros(text, zeros)
+fn filled(random: &mut Random, text: &[u8], longest: usize) -> Vec<u8> {
+    let zeros = random.index(1 + longest.saturating_sub(text.len()));
+    drawn::with_zeros(text, zeros).text().to_vec()
 }
 
-fn with_zeros(text: &[u8], zeros: usize) -> Vec<u8> {
-    let sign = usize::from(matches!(text.first(), Some(b'-' | b'+')));
-    let (sign, rest) = text.split_at(sign);
-    [sign, &vec![b'0'; zeros], rest].concat()
-}
-
-/// The text in 17 to 40 bytes, mostly with zeros before the year, else with anything after it.
-pub fn lengthened(random: &mut Random, text: &[u8]) -> Vec<u8> {
-    let length = LONGEST + 1 + random.index(24);
+/// The text in one of these lengths, all of them above its own, mostly with zeros before the year, else
+/// with anything after it.
+pub fn lengthened(random: &mut Random, text: &[u8], lengths: RangeInclusive<usize>) -> Vec<u8> {
+    let (least, greatest) = lengths.into_inner();
+    let length = least + random.index(greatest - least + 1);
     let more = length.saturating_sub(text.len());
     if random.chance(80) {
-        with_zeros(text, more)
+        drawn::with_zeros(text, more).text().to_vec()
     } else {
         let after: Vec<u8> = (0..more).map(|_| random.byte()).collect();
         [text, &after].concat()

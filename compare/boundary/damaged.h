@@ -1,0 +1,78 @@
+/* What the files of the program on damaged input share: its counts, its random numbers, its codes of kinds, and the parts,
+ * which main runs in the order in which they stand here. Private to this folder. */
+#ifndef DAMAGED_H
+#define DAMAGED_H
+
+#include "pennyquill.h"
+
+/* ---- damaged.c */
+
+extern unsigned long calls, refusals;
+extern uint32_t digest; /* of all answers: the same on every processor */
+
+void fault(const char *what, uint32_t kind, uint32_t number);
+
+/* A copy in a buffer of exactly this length. */
+uint8_t *exact(const void *bytes, size_t length);
+
+uint32_t random_word(void);
+
+/* The codes of the six kinds, and codes that are none. */
+static const uint32_t kinds[] = {1, 2, 3, 4, 5, 6, 0, 7, 8, 255, 256, 258, 65537, 0x80000001, UINT32_MAX};
+#define KINDS (sizeof kinds / sizeof kinds[0])
+
+int is_kind(uint32_t kind);
+uint32_t some_kind(void);
+int32_t some_number(void);
+
+/* What every answer has: a number of the table, 4 where the kind is none, and 0 beside a refusal but 11. */
+void told(const char *what, uint32_t kind, uint32_t number, uint32_t refusal, uint32_t value);
+
+/* ---- texts.c */
+
+/* The longest text that is read, and the longest that is drawn. */
+enum { LIMIT = 64, LONGEST = 80 };
+
+typedef pq_answer reader(uint32_t, const uint8_t *, size_t);
+
+pq_answer read_by(const char *what, reader *get, uint32_t kind, const void *bytes, size_t length);
+
+typedef void asker(uint32_t, const void *, size_t);
+
+/* Random bytes, and random ones of thirteen telling bytes, up to so many, by a way of reading. */
+void jumble(asker *read, const char *telling, size_t longest);
+
+void texts(void);
+
+/* ---- dates.c */
+
+void dates(void);
+void fields_and_numbers(void);
+
+/* ---- books.c */
+
+void books(void);
+
+/* ---- table_questions.c */
+
+/* The bytes of a table's head and of an entry, and the most entries. */
+enum { HEAD = 5, ENTRY = 3, MOST = 2048 };
+
+/* Asks everything about a buffer. */
+void on_table(const uint8_t *bytes, size_t length);
+
+/* ---- tables.c */
+
+void small_tables(void);
+void full_tables(void);
+
+/* ---- iso_texts.c */
+
+void read_iso(uint32_t kind, const void *bytes, size_t length);
+void iso_texts(void);
+
+/* ---- padded_texts.c */
+
+void padded_texts(void);
+
+#endif

@@ -1,5 +1,5 @@
 -- A whole text, by the steps of each kind's reader: its length, its shape, its leading number, the rest. Assumes nothing.
-use mathlib.Core.Path.{_≡_, refl, sym, ap, _∙_}
+use mathlib.Core.Path.{_≡_, sym, ap, _∙_}
 use mathlib.Core.Bool.{true, false}
 use mathlib.Core.List.{List, [], _∷_}
 use Prim.Native.Nat.{ℕ, _≤_, _<_, _^_}
@@ -13,8 +13,7 @@ use Rattle.sign.proofs.Bits.{held}
 use Rattle.rules.specs.Refusals.{Answer, Refused, _then_, tooLong, notText}
 use Rattle.rules.specs.Kinds.{Kind, Stored, store}
 use Rattle.rules.specs.Text.{Read, shapeAllowed, leading, textLimit, readText}
-use Rattle.rules.proofs.OnListing.RefusalLaws.{text-long}
-use Rattle.rules.proofs.OnText.LeadingLaws.{afterLeading, dotted-out, number-out, by-leading}
+use Rattle.rules.proofs.OnText.LeadingLaws.{afterLeading, dotted-out, number-out, text-long, by-leading}
 use Rattle.scalar.specs.Number.{most63, leadingNumber}
 use Rattle.scalar.specs.Views.{leadingAs}
 use Rattle.scalar.specs.declared.Leading.{Leading}

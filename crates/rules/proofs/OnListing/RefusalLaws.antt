@@ -7,17 +7,18 @@ use mathlib.Core.List.{List, [], _∷_, _++_}
 use Prim.Native.Nat.{ℕ, suc, _<_}
 use native.Mathlib.Nat.{le-refl}
 use native.Mathlib.Omega.{arith}
-use borrow.Author.Tests.{lt-leb, eqb-true}
+use borrow.Author.Tests.{eqb-true}
 use lib.Dec.{T, eqb}
 use lib.ListN.{length, replicate, length-replicate}
 use Rattle.rules.specs.Words.{byte, bytes}
-use Rattle.rules.specs.Refusals.{Answer, Gives, Refused, demand, tooLong, notText, notNumber, unreadableLine}
+use Rattle.rules.specs.Refusals.{Answer, Gives, Refused, tooLong, notText, notNumber, unreadableLine}
 use Rattle.rules.specs.Kinds.{Kind, kR, kD, kH, kU, kE, kV, Fields, ofKind}
 use Rattle.rules.specs.Numbers.{readsNumbers, guesses, numberFields, readNumber, guessNumber}
 use Rattle.rules.specs.Text.{digits, afterDigits, decimalValue, leading, shapeAllowed, textLimit, readText}
 use Rattle.rules.specs.Listing.{Line, Way, byText, byNumber, byGuess, letter, kindOfLetter, wayOfLetter, hasWay, readLine, digitsAsNumber, lineNumber, dateBy, refusedText, dateText, requestText, lineEnd, lineOutput}
 use Rattle.rules.proofs.OnRefusals.OutcomeLaws.{Outcome, gives, refuses, Any, Dated, outcome-demand, outcome-if, outcome-then, outcome-cond, outcome-value, outcome-refusal, outcome-text, outcome-line, outcome-number, outcome-guess}
 use Rattle.rules.proofs.OnKinds.CodeLaws.{outcome-kind, letter-back}
+use Rattle.rules.proofs.OnText.LeadingLaws.{text-long, either-way}
 
 -- ---- the refusals of a way, and of a kind
 
@@ -58,10 +59,6 @@ date-outcome byGuess k rest has = outcome-then (outcome-line refl rest) (outcome
 
 -- ---- each of them occurs
 
-pub text-long : (k : Kind) (s : List ℕ) → textLimit < length s → readText k s ≡ Refused tooLong
-unfolding readText
-text-long k s h = rw (lt-leb (length s) textLimit h)
-
 -- a text with a byte too many, an empty one, and a number whose hour is negative
 abbrev pub refusedRest : ℕ → List ℕ
 refusedRest n = cond (eqb n tooLong) (replicate (suc textLimit) (byte "0")) (cond (eqb n notText) [] (bytes "-1"))
@@ -72,10 +69,6 @@ one-more n b = rw (length-replicate (suc n) b) (le-refl (suc n))
 long-refused : (k : Kind) → dateBy byText k (refusedRest tooLong) ≡ Refused tooLong
 unfolding dateBy
 long-refused k = text-long k (replicate (suc textLimit) (byte "0")) (one-more textLimit (byte "0"))
-
-either-way : (t : Bool) → demand {A = Fields} t notText (Refused notText) ≡ Refused notText
-either-way true = refl
-either-way false = refl
 
 empty-refused : (w : Way) (k : Kind) → dateBy w k [] ≡ Refused notText
 unfolding dateBy readText leading lineNumber

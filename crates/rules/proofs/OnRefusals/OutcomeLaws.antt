@@ -163,12 +163,18 @@ outcome-leading two (b ∷ s) =
     outcome-cond (eqb b (byte "-")) (gives tt)
     (outcome-cond (eqb b (byte "+")) (gives tt) (outcome-cond (isDigit b) (gives tt) (refuses two)))
 
+-- a text that is not too long: its refusals are 2 alone
+abbrev pub withinLimit : Kind → List ℕ → Answer Fields
+withinLimit k s = demand (shapeAllowed k s) notText (leading s then λ r. textFields k r then λ f. settled k notText f)
+
+pub outcome-within : {R : ℕ → Type 0} → R notText → (k : Kind) (s : List ℕ) → Outcome R (Dated k) (withinLimit k s)
+outcome-within two k s =
+    outcome-demand (shapeAllowed k s) notText two
+    (outcome-then (outcome-leading two s) (λ r. outcome-then (outcome-text-fields two k r) (λ f. outcome-settled k notText f two)))
+
 pub outcome-text : {R : ℕ → Type 0} → R tooLong → R notText → (k : Kind) (s : List ℕ) → Outcome R (Dated k) (readText k s)
 unfolding readText
-outcome-text one two k s =
-    outcome-demand (leb (length s) textLimit) tooLong one
-    (outcome-demand (shapeAllowed k s) notText two
-    (outcome-then (outcome-leading two s) (λ r. outcome-then (outcome-text-fields two k r) (λ f. outcome-settled k notText f two))))
+outcome-text one two k s = outcome-demand (leb (length s) textLimit) tooLong one (outcome-within two k s)
 
 -- ---- a line's number, which refuses with 2 alone
 

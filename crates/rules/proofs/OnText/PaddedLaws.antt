@@ -8,7 +8,7 @@ use native.Mathlib.Omega.{arith}
 use borrow.Author.Tests.{le-leb, eqb-true}
 use lib.Dec.{T, eqb}
 use lib.IntN.{pos}
-use lib.ListN.{length, replicate, length-append, length-replicate}
+use lib.ListN.{length, replicate, length-append}
 use Rattle.rules.specs.Words.{minus, byte}
 use Rattle.rules.specs.Refusals.{Gives, given}
 use Rattle.rules.specs.Kinds.{Kind}

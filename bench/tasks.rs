@@ -44,6 +44,19 @@ fn reading(show: Show) {
     read(show, "V", V, at_noon(), |text| Vic3Date::parse(text));
     let uniform = texts(all_days(), |day| dotted_padded(uniform(day)));
     read(show, "U", U, uniform, |text| UniformDate::parse(text));
+    reading_padded(show);
+}
+
+/// Zeros before the year, or before a number, up to the longest text.
+fn reading_padded(show: Show) {
+    let padded = |text: String| format!("{text:0>64}");
+    let raw = texts(all_days(), |day| padded(dotted_at_noon(day)));
+    let name = "R in 64 bytes";
+    read(show, name, R, raw, |text| RawDate::parse(text));
+    let number_text = |number: i32| padded(number.to_string()).into_bytes();
+    let numbers = numbers(12).into_iter().map(number_text).collect();
+    let name = "H number in 64 bytes";
+    read(show, name, H, numbers, |text| DateHour::parse(text));
 }
 
 /// D's four fast shapes, all of them mixed, a text in none of them, and the text of a number. A closure

@@ -37,14 +37,7 @@ static void on_book(const uint8_t *bytes, size_t length) {
 void books(void) {
     static const uint8_t whole[] = {0, 0, 0, 16, 1, 2, 0x05, 0xA4, 0xB5, 0x80, 5,    0xFF, 0xFF,
                                     0xCF, 0xD8, 6, 0, 1, 0x10, 0x98, 0xA5, 0xA5, 0xA5, 0xA5, 0xA5};
-    for (size_t length = 0; length <= sizeof whole; length++)
-        for (size_t place = 0; place < length + (length == 0); place++)
-            for (unsigned byte = 0; byte < 256; byte += 1 + random_word() % 9) {
-                uint8_t changed[sizeof whole];
-                memcpy(changed, whole, sizeof whole);
-                changed[place] = (uint8_t)byte;
-                on_book(changed, length);
-            }
+    cut_and_changed(whole, sizeof whole, on_book);
     uint8_t *full = malloc(20490);
     if (full == NULL)
         abort();

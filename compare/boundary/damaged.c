@@ -43,6 +43,19 @@ uint32_t random_word(void) {
     return (uint32_t)(mixed ^ (mixed >> 31));
 }
 
+void cut_and_changed(const uint8_t *whole, size_t size, void (*ask)(const uint8_t *, size_t)) {
+    uint8_t *changed = exact(whole, size);
+    for (size_t length = 0; length <= size; length++)
+        for (size_t place = 0; place < length + (length == 0); place++) {
+            for (unsigned byte = 0; byte < 256; byte += 1 + random_word() % 9) {
+                changed[place] = (uint8_t)byte;
+                ask(changed, length);
+            }
+            changed[place] = whole[place];
+        }
+    free(changed);
+}
+
 int is_kind(uint32_t kind) { return 1 <= kind && kind <= 6; }
 
 uint32_t some_kind(void) { return kinds[random_word() % KINDS]; }

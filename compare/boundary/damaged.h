@@ -17,6 +17,9 @@ uint8_t *exact(const void *bytes, size_t length);
 
 uint32_t random_word(void);
 
+/* Asks about the bytes cut at each length, with each byte that is left changed to some others. */
+void cut_and_changed(const uint8_t *whole, size_t size, void (*ask)(const uint8_t *, size_t));
+
 /* The codes of the six kinds, and codes that are none. */
 static const uint32_t kinds[] = {1, 2, 3, 4, 5, 6, 0, 7, 8, 255, 256, 258, 65537, 0x80000001, UINT32_MAX};
 #define KINDS (sizeof kinds / sizeof kinds[0])

@@ -6,14 +6,7 @@
 /* A table of three fields: each byte changed, cut at each length; then length and version together, for their order. */
 void small_tables(void) {
     static const uint8_t whole[] = {0, 0, 0, 10, 1, 0x00, 0x03, 6, 0x01, 0xF4, 2, 0xFF, 0xFF, 5, 0xA5, 0xA5, 0xA5, 0xA5};
-    for (size_t length = 0; length <= sizeof whole; length++)
-        for (size_t place = 0; place < length + (length == 0); place++)
-            for (unsigned byte = 0; byte < 256; byte += 1 + random_word() % 9) {
-                uint8_t changed[sizeof whole];
-                memcpy(changed, whole, sizeof whole);
-                changed[place] = (uint8_t)byte;
-                on_table(changed, length);
-            }
+    cut_and_changed(whole, sizeof whole, on_table);
     for (uint8_t said = 0; said <= sizeof whole; said++)
         for (uint8_t version = 0; version < 4; version++) {
             uint8_t changed[sizeof whole];

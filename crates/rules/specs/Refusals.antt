@@ -26,7 +26,7 @@ given (Gives a) = true
 given (Refused n) = false
 given (RefusedAt n place) = false
 
--- text over 64 bytes: by #104 of document 02 "1 now begins at 65 bytes", where document 01 has 16
+-- text over 64 bytes (document 01 has 16). #104 of document 02: "1 now begins at 65 bytes"
 abbrev pub tooLong : ℕ
 tooLong = 1
 

@@ -22,8 +22,8 @@ pub record Read (A : Type 0) : Type 0 where
   pub value : A
   pub rest : List ℕ
 
--- ---- the leading number: "a digit, `-` or `+`, then digits; a sign alone is 0"; by #104 of document 02 with its "true decimal value
--- deciding and never its value after wrapping": a number of ℤ, of any size
+-- ---- the leading number: "a digit, `-` or `+`, then digits; a sign alone is 0". It is an integer of any size. #104 of document 02: "with
+-- the leading number's true decimal value deciding and never its value after wrapping"
 
 -- the digits that a text starts with, and what follows them
 unfoldable pub digits : List ℕ → List ℕ
@@ -139,7 +139,7 @@ shapeAllowed kV s = true
 
 -- ---- a text
 
--- the most bytes that a text may have: document 01's 16, and #104 of document 02: "Raise the text limit from 16 to 64 bytes"
+-- the most bytes that a text may have. #104 of document 02: "Raise the text limit from 16 to 64 bytes"
 abbrev pub textLimit : ℕ
 textLimit = 64
 

@@ -8,7 +8,7 @@ use std::fs;
 use std::path::Path;
 
 /// The program that is asked the questions has room for a text of so many bytes.
-const LONGEST_TEXT: usize = 96;
+const TEXT_ROOM: usize = 96;
 
 /// A question, a space and its answer. Rows are ordered by their bytes.
 #[derive(PartialEq, Eq, PartialOrd, Ord)]
@@ -97,7 +97,7 @@ pub fn date_or_refused<K: Kind>(answer: Option<K>, refusal: u8) -> String {
 
 /// The text between double quotes, without spaces.
 pub fn quoted(text: &[u8]) -> String {
-    assert!(text.len() <= LONGEST_TEXT);
+    assert!(text.len() <= TEXT_ROOM);
     let mut quoted = String::from("\"");
     for &byte in text {
         let is_plain = (0x21..=0x7e).contains(&byte) && !matches!(byte, b'"' | b'\\');

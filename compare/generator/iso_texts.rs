@@ -15,10 +15,11 @@ const SAMPLES_PER_KIND: usize = 60;
 const DAY: &str = "1444-11-11";
 const HOUR: &str = "1444-11-11T12";
 
-/// Spellings that the request takes and refuses, and those of the page's example.
+/// Spellings that the request takes and refuses, that of the exchange text too, and those of the page's
+/// example.
 const EXAMPLES: &str = "
     -005-01-01 -5-01-01 -0005-01-01 +005-01-01 0005-1-1 00005-01-01 -000-01-01 -0999-01-01
-    0001-01-01T00 1444-02-30 -5001-01-01 1444-11-11T19";
+    -00005-01-01 0001-01-01T00 1444-02-30 -5001-01-01 1444-11-11T19";
 
 /// Both sides of every bound on years and of every width that they are written in; and years that a
 /// cut to 16 or 32 bits would make good.

@@ -1,4 +1,4 @@
-//! The exchange text: "Date to text" of document 01.
+//! The exchange text: "Date to text" of document 01, its year by request #105 of document 02.
 //!
 //! Rows of spellings.txt, `K s DATE DOTTED ISO ...`, become rows `K x DATE EXCHANGE`. The ISO text in
 //! the row is the original's; it is held against this reading, which spells both texts alike but
@@ -39,11 +39,12 @@ pub fn iso_text(kind: Kind, date: Fields) -> String {
     year + &after_year(kind, date)
 }
 
-/// "as ISO, but a negative year has at least four digits after its sign (-5 is `-0005`)".
+/// "as ISO, but" the year: "years 0 to 9999 have four digits, all others a sign and five: `-00005`,
+/// `+10000`, `-32768`".
 pub fn exchange_text(kind: Kind, date: Fields) -> String {
     let year = match date.year {
-        ..0 => format!("-{:04}", date.year.unsigned_abs()),
-        0.. => format!("{:04}", date.year),
+        0..=9999 => format!("{:04}", date.year),
+        _ => format!("{:+06}", date.year),
     };
     year + &after_year(kind, date)
 }

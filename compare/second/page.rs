@@ -81,7 +81,7 @@ const NOT_READ: [(Kind, &str); 23] = [
 pub fn example() -> &'static str {
     let output = listing::output(EXAMPLE_INPUT.as_bytes());
     assert_eq!(String::from_utf8_lossy(&output), EXAMPLE_OUTPUT);
-    try_years_before_0();
+    try_years();
     try_small_book();
     try_small_table();
     try_iso_texts();
@@ -89,16 +89,27 @@ pub fn example() -> &'static str {
     EXAMPLE_INPUT
 }
 
-/// "-5 is `-005`" in the ISO text and `-0005` in the exchange text.
-fn try_years_before_0() {
-    let date = Fields {
-        year: -5,
+/// "-5 is `-005`" in the ISO text; and the years of #105: "`-00005`, `+10000`, `-32768`", which have
+/// five digits after the sign, as those of four digits and of all other sizes have.
+fn try_years() {
+    let new_year = |year| Fields {
+        year,
         month: 1,
         day: 1,
         hour: 0,
     };
-    assert_eq!(exchange::iso_text(Kind::D, date), "-005-01-01");
-    assert_eq!(exchange::exchange_text(Kind::D, date), "-0005-01-01");
+    assert_eq!(exchange::iso_text(Kind::D, new_year(-5)), "-005-01-01");
+    for (year, text) in [
+        (-32768, "-32768-01-01"),
+        (-9999, "-09999-01-01"),
+        (-5, "-00005-01-01"),
+        (0, "0000-01-01"),
+        (9999, "9999-01-01"),
+        (10000, "+10000-01-01"),
+        (32767, "+32767-01-01"),
+    ] {
+        assert_eq!(exchange::exchange_text(Kind::D, new_year(year)), text);
+    }
 }
 
 /// "D 1444.11.11 alone: 00 00 00 06 01 02 05 A4 B5 80."

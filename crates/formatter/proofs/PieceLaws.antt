@@ -4,7 +4,7 @@ use mathlib.Core.Bool.{Bool, true, false, cond}
 use mathlib.Core.List.{List, [], _∷_, _++_, append-assoc, append-nil}
 use Prim.Native.Nat.{ℕ, suc, _+_, _-_, _≤_, _<_}
 use native.Mathlib.Omega.{arith}
-use borrow.Author.Tests.{ne-eqb}
+use borrow.Author.Tests.{ne-eqb, le-leb, lt-leb}
 use lib.IntN.{ℤ, pos, negsuc}
 use lib.ListN.{length}
 use Rattle.sign.specs.Halves.{Halved}
@@ -65,9 +65,14 @@ pub iso-filled : (y : ℤ) → filledYear 4 3 y ≡ isoYear y
 iso-filled (pos n) = refl
 iso-filled (negsuc n) = refl
 
-pub exchange-filled : (y : ℤ) → filledYear 4 4 y ≡ exchangeYear y
-exchange-filled (pos n) = refl
-exchange-filled (negsuc n) = refl
+-- that of the exchange text has a plus above 9999
+pub exchange-filled : {t u d : ℕ} (y : ℤ) → Halved t y u d → u ≤ 9999 → filledYear 4 5 y ≡ exchangeYear y
+exchange-filled (pos n) h l = rw (le-leb n 9999 (omega (arith, h .up-is)))
+exchange-filled (negsuc n) h l = refl
+
+pub exchange-plus : {t u d : ℕ} (y : ℤ) → Halved t y u d → 9999 < u → bytes "+" ++ filled 5 u ≡ exchangeYear y
+exchange-plus (pos n) h l = rw (← (h .up-is), lt-leb n 9999 (omega (arith, h .up-is)))
+exchange-plus (negsuc n) h l = let z = h .up-is in absurd (omega arith)
 
 -- ---- an hour that was raised by 1 is lowered again
 

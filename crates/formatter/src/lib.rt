@@ -82,7 +82,7 @@ pub fn iso_8601(kind: Kind, date: Packed, out: &mut [u8]) -> Spelled
     }
 }
 
-// The exchange text, its year in at least four digits after a sign too.
+// The exchange text, its year in four digits, or in a sign and five.
 pub fn exchange(kind: Kind, date: Packed, out: &mut [u8]) -> Spelled
     ensures { λ r. ⌜ spelledAs r ≡ putAnswer (ofDate (kindOf kind) (bitsOf date) (λ f. Gives (exchange (kindOf kind) f))) (now (out .entry)) ⌝ }
     ensures { λ _. ⌜ now (out .exit) ≡ putBuffer (ofDate (kindOf kind) (bitsOf date) (λ f. Gives (exchange (kindOf kind) f))) (now (out .entry)) ⌝ }

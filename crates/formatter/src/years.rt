@@ -19,6 +19,12 @@ const NO_SIGN: u8 = 0;
 
 const MINUS: u8 = b'-';
 
+// The exchange text's alone.
+const PLUS: u8 = b'+';
+
+// The last year that the exchange text writes without a sign.
+const LAST_UNSIGNED: u64 = 9999;
+
 // How many digits: as many as the number has, and at least so many.
 fn at_least(width: usize, n: u64) -> usize
     requires { ⌜ (n ≤ 32768) × (width ≤ 5) ⌝ }
@@ -74,12 +80,16 @@ pub(crate) fn iso_year(year: i16) -> Year
     filled_year(year, 4, 3)
 }
 
-// At least four digits, after a sign too.
+// Four digits for years 0 to 9999, a sign and five for all others.
 pub(crate) fn exchange_year(year: i16) -> Year
     ensures { λ r. ⌜ yearText r ≡ exchangeYear year ⌝ }
     ensures { λ r. ⌜ r .digits ≤ 5 ⌝ }
 {
-    filled_year(year, 4, 4)
+    let h = sign::halves16(year);
+    if LAST_UNSIGNED < h.up {
+        return signed(PLUS, h.up, 5);
+    }
+    filled_year(year, 4, 5)
 }
 
 // How many bytes a year has.

@@ -40,10 +40,10 @@ abbrev pub isoYear : ℤ → List ℕ
 isoYear (pos n) = filled 4 n
 isoYear (negsuc n) = bytes "-" ++ filled 3 (suc n)
 
--- "as ISO, but a negative year has at least four digits after its sign"
+-- #105 of document 02: "years 0 to 9999 have four digits, all others a sign and five"
 abbrev pub exchangeYear : ℤ → List ℕ
-exchangeYear (pos n) = isoYear (pos n)
-exchangeYear (negsuc n) = bytes "-" ++ filled 4 (suc n)
+exchangeYear (pos n) = cond (leb n 9999) (filled 4 n) (bytes "+" ++ filled 5 n)
+exchangeYear (negsuc n) = bytes "-" ++ filled 5 (suc n)
 
 -- ---- the dotted text
 

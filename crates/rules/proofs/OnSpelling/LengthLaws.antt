@@ -4,7 +4,7 @@ use mathlib.Core.Bool.{Bool, true, false, cond}
 use mathlib.Core.List.{List, [], _++_}
 use Prim.Native.Nat.{ℕ, suc, _+_, _-_, _^_, _≤_, _<_}
 use native.Mathlib.Omega.{arith}
-use lib.Dec.{eqb}
+use lib.Dec.{leb, eqb}
 use lib.IntN.{ℤ, pos, negsuc}
 use lib.ListN.{length, length-append}
 use Rattle.sign.specs.Halves.{up, dn}
@@ -40,8 +40,12 @@ iso-year (pos n) a b = let s = filled-size 4 n (omega arith) (omega arith) in om
 iso-year (negsuc n) a b = let s = filled-size 3 (suc n) (omega arith) (omega arith) in omega arith
 
 exchange-year : (y : ℤ) → dn y ≤ 32768 → up y ≤ 32767 → Sized 4 6 (exchangeYear y)
-exchange-year (pos n) a b = iso-year (pos n) a b
-exchange-year (negsuc n) a b = let s = filled-size 4 (suc n) (omega arith) (omega arith) in omega arith
+exchange-year (pos n) a b = split (leb n 9999)
+  where
+    split : (t : Bool) → Sized 4 6 (cond t (filled 4 n) (bytes "+" ++ filled 5 n))
+    split true = let s = filled-size 4 n (omega arith) (omega arith) in omega arith
+    split false = let s = filled-size 5 n (omega arith) (omega arith) in omega arith
+exchange-year (negsuc n) a b = let s = filled-size 5 (suc n) (omega arith) (omega arith) in omega arith
 
 -- month, day and hour are below 100: two digits where they are filled, else one or two
 two-size : (n : ℕ) → n < 100 → Sized 1 2 (decimal n)

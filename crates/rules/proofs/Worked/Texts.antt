@@ -19,11 +19,11 @@ use Rattle.rules.proofs.Worked.Cases.{Case, _is_, answers, literals, on
 abbrev pub spellings : List (Case (List ℕ))
 spellings =
     (iso kD (on (negsuc 4) 1 1 0) is bytes "-005-01-01")
-    ∷ (exchange kD (on (negsuc 4) 1 1 0) is bytes "-0005-01-01")
+    ∷ (exchange kD (on (negsuc 4) 1 1 0) is bytes "-00005-01-01")
     ∷ (iso kD (on (pos 5) 1 1 0) is bytes "0005-01-01")
     ∷ (exchange kD (on (pos 5) 1 1 0) is bytes "0005-01-01")
     ∷ (iso kD (on (negsuc 32767) 12 31 0) is bytes "-32768-12-31")
-    ∷ (exchange kR (on (pos 10000) 12 31 24) is bytes "10000-12-31T23")
+    ∷ (exchange kR (on (pos 10000) 12 31 24) is bytes "+10000-12-31T23")
     ∷ (dotted kR (on (negsuc 32767) 12 31 24) is bytes "-32768.12.31.24")
     ∷ (dotted kD (on (pos 0) 1 1 0) is bytes "0.1.1")
     ∷ (dotted kU (on (pos 1444) 2 3 0) is bytes "1444.02.03")

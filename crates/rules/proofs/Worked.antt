@@ -4,4 +4,5 @@ pub mod Pairs
 pub mod Bounds
 pub mod Padded
 pub mod Texts
+pub mod Exchanges
 pub mod Lines

@@ -21,6 +21,7 @@ texts =
     (readIso kD (bytes "-005-01-01") is date (negsuc 4) 1 1 0)
     ∷ (readIso kD (bytes "-5-01-01") is Refused 2)
     ∷ (readIso kD (bytes "-0005-01-01") is Refused 2)
+    ∷ (readIso kD (bytes "-00005-01-01") is Refused 2)  -- the exchange text's year
     ∷ (readIso kD (bytes "+005-01-01") is Refused 2)
     ∷ (readIso kD (bytes "0005-01-01") is date (pos 5) 1 1 0)
     ∷ (readIso kD (bytes "0005-1-1") is Refused 2)
@@ -33,6 +34,7 @@ texts =
     ∷ (readIso kD (bytes "9999-01-01") is date (pos 9999) 1 1 0)
     ∷ (readIso kD (bytes "09999-01-01") is Refused 2)
     ∷ (readIso kD (bytes "10000-01-01") is date (pos 10000) 1 1 0)
+    ∷ (readIso kD (bytes "+10000-01-01") is Refused 2)  -- likewise
     ∷ (readIso kD (bytes "32767-12-31") is date (pos 32767) 12 31 0)
     ∷ (readIso kD (bytes "32768-01-01") is Refused 2)
     ∷ (readIso kD (bytes "-32768-01-01") is date (negsuc 32767) 1 1 0)

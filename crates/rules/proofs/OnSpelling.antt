@@ -1,6 +1,7 @@
--- Numbers in decimal, the lengths of texts, a text in a lent buffer.
+-- Numbers in decimal, the lengths of texts, the form of the exchange text, a text in a lent buffer.
 pub mod DecimalLaws
 pub mod WriteLaws
 pub mod LengthLaws
 pub mod DigitLaws
 pub mod FilledLaws
+pub mod ExchangeLaws

@@ -60,10 +60,11 @@ typedef struct {
    text may have zeros before them, as many as fit, and the true value decides: 18446744073709553060.1.1, of the year
    2^64 + 1444, is 2 and never 1444.1.1. Of D such a text has 12 bytes at most: one of 13 to 64 is 2.
 
-   An ISO text is read as pq_write_iso spells it and in no other way: the year -5 is -005, never -5 or -0005, and none has
-   over 15 bytes. R takes an hour or none; D and U refuse one; H, E and V demand theirs, so that E's ISO date alone is
-   refused. Every date comes back as it was, but for E's odd hours, which come back even: 2 and 3 are both written as T09,
-   and T09 is read as 2. No dotted text is read there, and no ISO text by pq_read_text. */
+   An ISO text is read as pq_write_iso spells it and in no other way: the year -5 is -005, never -5, -0005 or the
+   exchange text's -00005, and none has over 15 bytes. R takes an hour or none; D and U refuse one; H, E and V demand
+   theirs, so that E's ISO date alone is refused. Every date comes back as it was, but for E's odd hours, which come
+   back even: 2 and 3 are both written as T09, and T09 is read as 2. No dotted text is read there, and no ISO text by
+   pq_read_text. */
 pq_answer pq_read_text(uint32_t kind, const uint8_t *text, size_t len);
 pq_answer pq_read_iso(uint32_t kind, const uint8_t *text, size_t len);
 pq_answer pq_read_number(uint32_t kind, int32_t number);
@@ -81,7 +82,10 @@ pq_number pq_days_until(uint32_t kind, uint32_t first, uint32_t second);
 pq_number pq_order(uint32_t kind, uint32_t first, uint32_t second);
 
 /* The text of a date at the front of a buffer; 15 bytes are room for every text. E alone has the ISO date alone. The value
-   is the text's length. */
+   is the text's length.
+
+   The exchange text is the ISO text but for its year: years 0 to 9999 have four digits, all others a sign and five. The
+   years -5 and 10000 are -00005 and +10000 there, and -005 and 10000 in the ISO text. */
 pq_answer pq_write_dotted(uint32_t kind, uint32_t date, uint8_t *out, size_t room);
 pq_answer pq_write_iso(uint32_t kind, uint32_t date, uint8_t *out, size_t room);
 pq_answer pq_write_iso_date(uint32_t kind, uint32_t date, uint8_t *out, size_t room);

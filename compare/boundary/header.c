@@ -127,7 +127,9 @@ static void texts(void) {
     writes("pq_write_dotted", pq_write_dotted, U, date(5, 2, 30, 0), "5.02.30");
     writes("pq_write_iso", pq_write_iso, E, date(-5, 2, 3, 22), "-005-02-03T19");
     writes("pq_write_iso_date", pq_write_iso_date, E, date(-5, 2, 3, 22), "-005-02-03");
-    writes("pq_write_exchange", pq_write_exchange, H, date(-5, 2, 3, 22), "-0005-02-03T21");
+    writes("pq_write_exchange", pq_write_exchange, H, date(-5, 2, 3, 22), "-00005-02-03T21");
+    writes("pq_write_exchange, above 9999", pq_write_exchange, R, date(10000, 2, 31, 0), "+10000-02-31");
+    writes("pq_write_exchange, 9999", pq_write_exchange, E, date(9999, 2, 3, 22), "9999-02-03T19");
 }
 
 static void books(void) {

@@ -61,9 +61,10 @@ impl Date {
     /// assert_eq!(Date::from_iso_8601("1444-11-11"), Date::parse("1444.11.11"));
     /// assert_eq!(Date::from_iso_8601("1444-11-11T00"), Err(Refusal::NotText));
     ///
-    /// // The sign of a year counts among its four places. -0005 is the year in the exchange text.
+    /// // The sign of a year counts among its four places. -00005 is the year in the exchange text.
     /// assert_eq!(Date::from_iso_8601("-005-01-01"), Date::parse("-5.1.1"));
     /// assert_eq!(Date::from_iso_8601("-0005-01-01"), Err(Refusal::NotText));
+    /// assert_eq!(Date::from_iso_8601("-00005-01-01"), Err(Refusal::NotText));
     /// assert_eq!(Date::from_iso_8601("-5-01-01"), Err(Refusal::NotText));
     /// ```
     pub fn from_iso_8601<T: AsRef<[u8]>>(text: T) -> Result<Self, Refusal> {

@@ -91,11 +91,19 @@ pub trait PdsDate: Copy + Sized {
         whole(ffi::pq_write_iso, self)
     }
 
-    /// The exchange text: as the ISO text, but a negative year has four digits or more after its sign. Not in jomini.
+    /// The exchange text: as the ISO text, but for the year. Years 0 to 9999 have four digits, all others a sign and
+    /// five, as ISO 8601 has them in its expanded form. Not in jomini.
     ///
     /// ```
     /// use pennyquill::{Date, PdsDate};
-    /// assert_eq!(Date::parse("-5.1.1")?.exchange(), "-0005-01-01");
+    /// assert_eq!(Date::parse("1444.11.11")?.exchange(), "1444-11-11");
+    /// assert_eq!(Date::parse("-5.1.1")?.exchange(), "-00005-01-01");
+    /// assert_eq!(Date::parse("9999.12.31")?.exchange(), "9999-12-31");
+    /// assert_eq!(Date::parse("10000.1.1")?.exchange(), "+10000-01-01");
+    ///
+    /// // The ISO text is another, for these years too.
+    /// assert_eq!(Date::parse("-5.1.1")?.iso_8601(), "-005-01-01");
+    /// assert_eq!(Date::parse("10000.1.1")?.iso_8601(), "10000-01-01");
     /// # Ok::<(), pennyquill::Refusal>(())
     /// ```
     fn exchange(&self) -> Text {
@@ -136,8 +144,10 @@ pub trait PdsDate: Copy + Sized {
     /// ```
     /// use pennyquill::{PdsDate, RawDate};
     /// let mut out = [b'.'; 15];
-    /// assert_eq!(RawDate::parse("-5.1.1.24")?.write_exchange(&mut out)?, 14);
-    /// assert_eq!(&out, b"-0005-01-01T23.");
+    /// assert_eq!(RawDate::parse("1444.1.1.24")?.write_exchange(&mut out)?, 13);
+    /// assert_eq!(&out, b"1444-01-01T23..");
+    /// assert_eq!(RawDate::parse("-5.1.1.24")?.write_exchange(&mut out)?, 15);
+    /// assert_eq!(&out, b"-00005-01-01T23");
     /// # Ok::<(), pennyquill::Refusal>(())
     /// ```
     fn write_exchange(&self, out: &mut [u8]) -> Result<usize, Refusal> {

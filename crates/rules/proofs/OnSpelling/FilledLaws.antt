@@ -1,5 +1,5 @@
 -- A number zero-filled to any width: its digits, and their value; and the years of the ISO and the exchange text read back. Assumes nothing.
-use mathlib.Core.Path.{_≡_, refl, _∙_}
+use mathlib.Core.Path.{_≡_, refl, ap, _∙_}
 use mathlib.Core.Bool.{Bool, true, false, cond}
 use mathlib.Core.List.{List, _++_}
 use Prim.Native.Nat.{ℕ, zero, suc, _-_, _^_, _≤_, _<_}
@@ -11,7 +11,7 @@ use Rattle.sign.specs.Halves.{up, dn}
 use Rattle.rules.specs.Words.{minus, bytes}
 use Rattle.rules.specs.Refusals.{Gives}
 use Rattle.rules.specs.Spelling.{digit, decimal, filled, isoYear, exchangeYear}
-use Rattle.rules.specs.Text.{decimalValue, leading}
+use Rattle.rules.specs.Text.{Read, decimalValue, natural, signed, leading}
 use Rattle.rules.proofs.OnSpelling.DecimalLaws.{digits-least, filled-length}
 use Rattle.rules.proofs.OnSpelling.DigitLaws.{OnlyDigits, next, noDigit, decimal-digits, decimal-value, digits-front, digits-after, lead-digits}
 
@@ -41,13 +41,16 @@ module _ (w n : ℕ) (r : List ℕ) (h : n < 10 ^ 20) (e : noDigit r ≡ true) w
   lead-unsigned : leading (filled w n ++ r) ≡ Gives (record { value = pos n; rest = r })
   lead-unsigned = rw (lead-digits r (filled-digits w n h) (filled-least w n) e, filled-value w n h)
 
+  natural-filled : natural (filled w n ++ r) ≡ record { value = n; rest = r }
+  natural-filled = rw (digits-front r (filled-digits w n h) e, digits-after r (filled-digits w n h) e, filled-value w n h)
+
   lead-minus : leading (bytes "-" ++ filled w n ++ r) ≡ Gives (record { value = minus n; rest = r })
   unfolding leading
-  lead-minus = rw (digits-front r (filled-digits w n h) e, digits-after r (filled-digits w n h) e, filled-value w n h)
+  lead-minus = ap (λ (x : Read ℕ). Gives (signed minus x)) natural-filled
 
   lead-plus : leading (bytes "+" ++ filled w n ++ r) ≡ Gives (record { value = pos n; rest = r })
   unfolding leading
-  lead-plus = rw (digits-front r (filled-digits w n h) e, digits-after r (filled-digits w n h) e, filled-value w n h)
+  lead-plus = ap (λ (x : Read ℕ). Gives (signed pos x)) natural-filled
 
 -- the year of the ISO text is the text's leading number
 pub lead-iso : (y : ℤ) (r : List ℕ) → dn y ≤ 32768 → up y ≤ 32767 → noDigit r ≡ true →

@@ -1,4 +1,5 @@
 -- `formatter::years::exchange_year` meets its contract: a plus above 9999, else as it is filled. Assumes nothing.
+use native.Mathlib.Omega.{arith}
 use borrow.Author.Needs.{needs}
 use mathlib.Core.Path.{_∙_}
 use mir.Facts.{toZ-ofZ}
@@ -12,11 +13,11 @@ got c = rw (toZ-ofZ (c .before .fits .year)) at (c .halves16 .ensures)
 
 returns : tie.Need-returns
 returns c =
-    (c .signed .ensures .0 ∙ exchange-plus _ (got (c .before .before .before)) (c .before .if1 .taken), c .signed .ensures .1)
+    (c .signed .ensures .0 ∙ exchange-plus _ (got (c .before .before .before)) (omega (arith, c .before .if1 .taken)), c .signed .ensures .1)
 
 returns-2 : tie.Need-returns-2
 returns-2 c =
-    ((rw (toZ-ofZ (c .before .before .before .before .fits .year)) at (c .filled-year .ensures .0)) ∙ exchange-filled _ (got (c .before .before .before)) (c .before .if1 .left), c .filled-year .ensures .1)
+    ((rw (toZ-ofZ (c .before .before .before .before .fits .year)) at (c .filled-year .ensures .0)) ∙ exchange-filled _ (got (c .before .before .before)) (omega (arith, c .before .if1 .left)), c .filled-year .ensures .1)
 
 pub exchange-year-spec : {M : Type 1} → statement M
 exchange-year-spec =

@@ -89,8 +89,8 @@ pub fn example() -> &'static str {
     EXAMPLE_INPUT
 }
 
-/// "-5 is `-005`" in the ISO text; and the years of #105: "`-00005`, `+10000`, `-32768`", which have
-/// five digits after the sign, as those of four digits and of all other sizes have.
+/// "-5 is `-005`" in the ISO text; and in the exchange text the years of #105, "`-00005`, `+10000`,
+/// `-32768`", with those at its bounds.
 fn try_years() {
     let new_year = |year| Fields {
         year,

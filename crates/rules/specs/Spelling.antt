@@ -89,6 +89,7 @@ isoDate f = isoYear (f .year) ++ isoMonthDay f
 unfoldable pub iso : Kind → Fields → List ℕ
 iso k f = isoDate f ++ isoHour k (f .hour)
 
+-- "Exchange text: as ISO, but" its year
 unfoldable pub exchange : Kind → Fields → List ℕ
 exchange k f = exchangeYear (f .year) ++ isoMonthDay f ++ isoHour k (f .hour)
 

@@ -8,7 +8,7 @@ use lib.IntN.{ℤ}
 use lib.ListN.{length, getD, take, drop, replicate}
 use Rattle.rules.specs.Words.{within, bigEndian, bigBytes}
 use Rattle.rules.specs.Refusals.{Answer, Gives, Refused, RefusedAt, _then_, demand, given}
-use Rattle.rules.specs.Kinds.{Kind, kindBy, Fields}
+use Rattle.rules.specs.Kinds.{Kind, kindBy, Fields, Stored, noMark, guessedMark, storedWith}
 use Rattle.rules.specs.Numbers.{readsNumbers, readNumber, guesses, guessNumber}
 use Rattle.rules.specs.Book.{Frame, headSize, framed, pick, newAnswer, newBuffer, kindCode}
 use Rattle.requests.specs.Entries.{some, ascends, standing, declare, remove}
@@ -166,6 +166,14 @@ pub record Looked : Type 0 where
   pub kind : Kind
   pub date : Fields
   pub guessed : Bool
+
+-- #106: "Guess readers set 1, all others 0"; the date as it is handed out
+abbrev pub lookedMark : Bool → ℕ
+lookedMark true = guessedMark
+lookedMark false = noMark
+
+abbrev pub lookedDate : Looked → Stored
+lookedDate l = storedWith (lookedMark (l .guessed)) (l .date)
 
 -- "the declared kind's full decoding"
 abbrev pub decode : ℤ → Kind → Answer Looked

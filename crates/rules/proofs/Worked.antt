@@ -5,4 +5,5 @@ pub mod Bounds
 pub mod Padded
 pub mod Texts
 pub mod Exchanges
+pub mod Marks
 pub mod Lines

@@ -6,8 +6,8 @@ use lib.Dec.{leb, ltb, eqb}
 use lib.IntN.{ℤ, pos, negsuc, _-ℤ_}
 use lib.ListN.{length, getD, take, drop}
 use Rattle.rules.specs.Words.{within, bigEndian, bigBytes}
-use Rattle.rules.specs.Refusals.{Answer, Gives, Refused, RefusedAt, _then_, demand, given, notOfKind, badLength, badVersion, badRecord, noRoom, noRecord}
-use Rattle.rules.specs.Kinds.{Kind, kR, kD, kH, kU, kE, kV, kindBy, Fields, Stored, packed, handed, ofDate}
+use Rattle.rules.specs.Refusals.{Answer, Gives, Refused, RefusedAt, _then_, demand, given, notOfKind, badLength, badVersion, badRecord, noRoom, noRecord, guessedDate}
+use Rattle.rules.specs.Kinds.{Kind, kR, kD, kH, kU, kE, kV, kindBy, Fields, Stored, markOf, noMark, handed, ofDate}
 
 -- ---- the frame and the format
 
@@ -102,9 +102,13 @@ entryAt format s place = recordAt format s place then format .entry
 abbrev pub placeAfter : Frame → List ℕ → ℕ → Answer ℕ
 placeAfter frame s n = demand (ltb n (frame .most) && leb (lengthSaid s + lengthSize + frame .size) (length s)) noRoom (Gives n)
 
+-- #106 of document 02: "20 when a guessed date is appended to a version 1 book, after 12": its record is none of that format
+abbrev pub takenBy : {A : Type 0} → Format A → List ℕ → ℕ → Answer ℕ
+takenBy format r place = demand (soundBy format r) guessedDate (Gives place)
+
 -- "append (gives the new record's place)", of a record's bytes, or of a refusal that comes before the book's
 unfoldable pub appendAnswer : {A : Type 0} → Format A → Answer (List ℕ) → List ℕ → Answer ℕ
-appendAnswer format entry s = entry then λ r. check format s then placeAfter (format .frame) s
+appendAnswer format entry s = entry then λ r. check format s then placeAfter (format .frame) s then takenBy format r
 
 -- the buffer after it: the length counts the record, what followed the length stays, and the record fills the bytes after
 unfoldable pub appended : Frame → List ℕ → List ℕ → List ℕ
@@ -149,19 +153,23 @@ unfoldable pub yearOfTwos : ℕ → ℤ
 yearOfTwos n = cond (ltb n 32768) (pos n) (pos n -ℤ pos 65536)
 
 -- "records of five bytes: kind .., year (two's complement, big-endian), packed word (big-endian)"
-unfoldable pub entryBytes : Kind → Fields → List ℕ
-entryBytes k f = kindCode k ∷ bigBytes 2 (twosComplement (f .year)) ++ bigBytes 2 (packed f)
+unfoldable pub entryBytes : Kind → Stored → List ℕ
+entryBytes k d = kindCode k ∷ bigBytes 2 (twosComplement (d .year)) ++ bigBytes 2 (d .word)
 
 -- "gives its kind and date"
 pub record Entry : Type 0 where
   pub kind : Kind
   pub date : Fields
 
+-- #106 of document 02: "11 for any mark in one": the date of a version 1 book's record has none
+abbrev pub unmarkedDate : Kind → Stored → Answer Fields
+unmarkedDate k d = demand (eqb (markOf (d .word)) noMark) notOfKind (handed k d)
+
 -- its kind's code in the first byte; the date's four bytes, year and word, from a place of the record on
 unfoldable pub entryFrom : ℕ → List ℕ → Answer Entry
 entryFrom at r =
     kindOfCode (getD r 0 0) then λ k.
-    handed k (record { year = yearOfTwos (bigEndian (take 2 (drop at r))); word = bigEndian (take 2 (drop (at + 2) r)) }) then λ f.
+    unmarkedDate k (record { year = yearOfTwos (bigEndian (take 2 (drop at r))); word = bigEndian (take 2 (drop (at + 2) r)) }) then λ f.
     Gives (record { kind = k; date = f })
 
 -- the date follows the kind
@@ -172,6 +180,6 @@ entryOf = entryFrom 1
 abbrev pub version1 : Format Entry
 version1 = record { frame = record { size = 5; most = 4096; version = 1 }; entry = entryOf }
 
--- the record of a date handed in, by its kind's code
+-- the record of a date handed in, by its kind's code; its word is as it was handed in, with its mark
 unfoldable pub entryFor : ℕ → Stored → Answer (List ℕ)
-entryFor code d = kindOfCode code then λ k. ofDate k d (λ f. Gives (entryBytes k f))
+entryFor code d = kindOfCode code then λ k. ofDate k d (λ f. Gives (entryBytes k d))

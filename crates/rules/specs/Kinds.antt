@@ -104,35 +104,49 @@ inGameHour h = h / 2 + 8
 unfoldable pub packed : Fields → ℕ
 packed f = f .month * 4096 + f .day * 128 + f .hour * 4
 
--- the mark of a word is its two low bits; the word of fields with a mark, and the word's mark back
+-- #106 of document 02: "Put it into the packed word's two empty bits". The word of fields with a mark, and the word's mark back
 abbrev pub wordOf : ℕ → Fields → ℕ
 wordOf mark f = packed f + mark
 
 abbrev pub markOf : ℕ → ℕ
 markOf word = word % 4
 
--- no mark: two low bits that are 0
+-- "0 declared, 1 guessed, 2 and 3 not allowed"
 abbrev pub noMark : ℕ
 noMark = 0
 
--- the marks that a date handed in may have: none, since the packed word leaves those bits 0
+abbrev pub guessedMark : ℕ
+guessedMark = 1
+
 abbrev pub markAllowed : ℕ → Bool
-markAllowed mark = eqb mark noMark
+markAllowed mark = eqb mark noMark || eqb mark guessedMark
 
 -- a date as it is stored: its year, and its word beside it
 pub record Stored : Type 0 where
   pub year : ℤ
   pub word : ℕ
 
--- a date of these fields, with a mark; and one that is made, which has none
+-- a date of these fields, with a mark; and without one
 abbrev pub storedWith : ℕ → Fields → Stored
 storedWith mark f = record { year = f .year; word = wordOf mark f }
 
 abbrev pub stored : Fields → Stored
 stored f = storedWith noMark f
 
+-- what is handed out of an answer: the date, with this mark
+abbrev pub storeWith : ℕ → Answer Fields → Answer Stored
+storeWith mark a = a then λ f. Gives (storedWith mark f)
+
+-- "Guess readers set 1, all others 0"
+abbrev pub storeGuess : Answer Fields → Answer Stored
+storeGuess a = storeWith guessedMark a
+
 abbrev pub store : Answer Fields → Answer Stored
-store a = a then λ f. Gives (stored f)
+store a = storeWith noMark a
+
+-- "an addition and E's start of day keep the starting date's mark"
+abbrev pub storeLike : Stored → Answer Fields → Answer Stored
+storeLike start a = storeWith (markOf (start .word)) a
 
 -- the fields of a stored date, whatever its mark
 abbrev pub unpacked : Stored → Fields
@@ -140,7 +154,7 @@ unpacked d = record { year = d .year; month = d .word / 4096; day = d .word / 12
 
 -- ---- a date handed in
 
--- the fields of the date, if it is one of the kind and its mark is allowed, or 4
+-- the fields of the date, if it is one of the kind and its mark is allowed, or 4: "4 also for marks 2 and 3"
 unfoldable pub handed : Kind → Stored → Answer Fields
 handed k d = demand (markAllowed (markOf (d .word))) notOfKind (made k notOfKind (unpacked d))
 
@@ -150,6 +164,14 @@ ofDate k d next = handed k d then next
 
 abbrev pub ofDates : {A : Type 0} → Kind → Stored → Stored → (Fields → Fields → Answer A) → Answer A
 ofDates k d e next = ofDate k d (λ f. ofDate k e (next f))
+
+-- whether a date was guessed, by its mark
+abbrev pub isGuessed : Stored → Bool
+isGuessed d = eqb (markOf (d .word)) guessedMark
+
+-- a date handed in, handed out again without its mark
+abbrev pub withoutMark : Kind → Stored → Answer Stored
+withoutMark k d = store (handed k d)
 
 -- ---- least and greatest
 

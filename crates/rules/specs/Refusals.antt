@@ -76,3 +76,7 @@ noRoom = 12
 -- no record at that place
 abbrev pub noRecord : ℕ
 noRecord = 13
+
+-- #106 of document 02: "20 when a guessed date is appended to a version 1 book"
+abbrev pub guessedDate : ℕ
+guessedDate = 20

@@ -6,19 +6,29 @@ use mathlib.Core.List.{List, [], _∷_}
 use Prim.Native.Nat.{ℕ, suc, _+_, _*_, _≤_, _<_}
 use native.Mathlib.Omega.{arith}
 use borrow.Author.Tests.{ne-eqb, lt-ltb, le-leb}
+use lib.Dec.{eqb, lit<}
 use lib.IntN.{ℤ}
 use lib.ListN.{length, replicate, drop, length-append, length-replicate, length-drop}
 use Rattle.rules.specs.Refusals.{Answer, Gives, Refused, _then_, demand, given}
-use Rattle.rules.specs.Kinds.{Kind}
+use Rattle.rules.specs.Kinds.{Kind, wordOf, markOf, noMark, guessedMark, isGuessed}
 use Rattle.rules.specs.Numbers.{readNumber, guessNumber}
 use Rattle.rules.specs.Book.{headSize}
+use Rattle.rules.proofs.OnKinds.PackLaws.{mark-back}
 use Rattle.rules.proofs.OnBook.FrameLaws.{Sensible, demand-met, then-met}
 use Rattle.requests.specs.Entries.{same, standing, declare, remove}
-use Rattle.requests.specs.FieldTable.{TableFormat, tableFrame, badEntry, keyIn, codeIn, isKey, declaredKind, gameKind, Declared, declaredBy, entryBytes, entries, declared, removed, declareBuffer, removeBuffer, Looked, decode, guess, lookBy, gameFor, lookup}
+use Rattle.requests.specs.FieldTable.{TableFormat, tableFrame, badEntry, keyIn, codeIn, isKey, declaredKind, gameKind, Declared, declaredBy, entryBytes, entries, declared, removed, declareBuffer, removeBuffer, Looked, lookedMark, lookedDate, decode, guess, lookBy, gameFor, lookup}
 use Rattle.requests.proofs.OnEntries.ChangeLaws.{declare-other, remove-other, found-declared, found-removed, declare-remove}
 use Rattle.requests.proofs.OnFieldTable.EntryLaws.{first-declares, by-its-code}
 use Rattle.requests.proofs.OnFieldTable.HeldLaws.{Holds, found-holds}
 use Rattle.requests.proofs.OnFieldTable.AfterLaws.{Told, told, its-key, it-declares, after-declare, Gone, gone, after-remove}
+
+-- #106: what is handed out is marked exactly where it was guessed
+pub looked-marked : (l : Looked) → isGuessed (lookedDate l) ≡ l .guessed
+looked-marked l = by (l .guessed)
+  where
+    by : (t : Bool) → eqb (markOf (wordOf (lookedMark t) (l .date))) guessedMark ≡ t
+    by true = rw (mark-back guessedMark (l .date) (lit< tt))
+    by false = rw (mark-back noMark (l .date) (lit< tt))
 
 module _ (table : TableFormat) (sensible : Sensible (tableFrame table)) where
   abbrev w : ℕ

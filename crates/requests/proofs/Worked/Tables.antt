@@ -9,13 +9,13 @@ use lib.ListN.{length, replicate}
 use Rattle.rules.specs.Words.{bigEndian, bigBytes}
 use Rattle.rules.specs.Refusals.{Answer, Gives, Refused, _then_}
 use Rattle.rules.specs.Calendar.{lengths, monthLength, walk, monthDay}
-use Rattle.rules.specs.Kinds.{kD, kE, fitsKind, ofKind, made, settled}
+use Rattle.rules.specs.Kinds.{kD, kE, fitsKind, ofKind, made, settled, packed}
 use Rattle.rules.specs.Numbers.{numberFields, decoded, readNumber, guessNumber}
 use Rattle.rules.specs.Book.{lengthSaid, pieces, framed, pick, newAnswer, newBuffer}
 use Rattle.rules.proofs.Worked.Cases.{Case, _is_, answers, literals}
 use Rattle.requests.specs.Entries.{ascends, keep, declare, remove}
 use Rattle.requests.specs.Laid.{joined, laid}
-use Rattle.requests.specs.FieldTable.{table1, keyIn, codeIn, kindAmong, Declared, declaring, declaredBy, entryBytes, entryFor, allDeclare, entries, counted, check, entryAt, declareIn, removeIn, declared, removed, tableBuffer, declareBuffer, removeBuffer, Looked, lookBy, gameFor, lookup}
+use Rattle.requests.specs.FieldTable.{table1, keyIn, codeIn, kindAmong, Declared, declaring, declaredBy, entryBytes, entryFor, allDeclare, entries, counted, check, entryAt, declareIn, removeIn, declared, removed, tableBuffer, declareBuffer, removeBuffer, Looked, lookedDate, lookBy, gameFor, lookup}
 
 -- ---- tables: an empty one; 500 as D; fields 5 and 7 as D and E
 
@@ -164,3 +164,18 @@ pub lookups-hold : answers lookups ≡ literals lookups
 unfolding bigEndian bigBytes lengthSaid pieces framed ascends keep keyIn codeIn kindAmong declaring declaredBy allDeclare entries lookBy gameFor
     lookup lengths monthLength walk monthDay fitsKind ofKind made settled numberFields decoded readNumber guessNumber
 lookups-hold = refl
+
+-- #106: the date that is handed out, by its word: 46464 is 11.11, and 1 more where it was guessed
+abbrev handedOut : Answer Looked → Answer ℕ
+handedOut a = a then λ l. Gives (lookedDate l .word)
+
+abbrev marks : List (Case (Answer ℕ))
+marks =
+    (handedOut (lookup table1 two 5 2 (pos 56456976)) is Gives 46464)
+    ∷ (handedOut (lookup table1 two 6 2 (pos 56456976)) is Gives 46465)
+    ∷ []
+
+pub marks-hold : answers marks ≡ literals marks
+unfolding bigEndian bigBytes lengthSaid pieces framed ascends keep keyIn codeIn kindAmong declaring declaredBy allDeclare entries lookBy gameFor
+    lookup lengths monthLength walk monthDay fitsKind ofKind made settled packed numberFields decoded readNumber guessNumber
+marks-hold = refl

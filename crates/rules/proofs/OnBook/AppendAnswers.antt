@@ -1,6 +1,6 @@
 -- What an append answers, from what the check answers, and the buffer that it leaves. Over the format. Assumes nothing.
 use mathlib.Core.Path.{_≡_, refl, sym, ap, _∙_}
-use mathlib.Core.Bool.{false, _&&_}
+use mathlib.Core.Bool.{true, false, _&&_}
 use mathlib.Core.List.{List, [], _∷_, _++_, append-assoc}
 use Prim.Native.Nat.{ℕ, _+_, _-_, _≤_, _<_}
 use native.Mathlib.Omega.{arith}
@@ -9,13 +9,13 @@ use lib.Dec.{leb, ltb}
 use lib.ListN.{set, length, take, drop}
 use lib.Seq.{sets, sets-eq, length-sets, length-take-le, take-add, drop-at}
 use Rattle.rules.specs.Words.{bigBytes}
-use Rattle.rules.specs.Refusals.{Answer, Gives, Refused, RefusedAt, _then_, demand, given, noRoom}
-use Rattle.rules.specs.Book.{Frame, Format, lengthSize, headSize, lengthSaid, check, placeAfter, appendAnswer, appended, appendBuffer, newAnswer, newBuffer}
+use Rattle.rules.specs.Refusals.{Answer, Gives, Refused, RefusedAt, _then_, demand, given, noRoom, guessedDate}
+use Rattle.rules.specs.Book.{Frame, Format, soundBy, lengthSize, headSize, lengthSaid, check, placeAfter, takenBy, appendAnswer, appended, appendBuffer, newAnswer, newBuffer}
 use Rattle.rules.proofs.OnWords.ByteLaws.{byte-count}
 
 -- ---- the answer, from the count
 
-pub append-by : {A : Type 0} (format : Format A) (s r : List ℕ) → appendAnswer format (Gives r) s ≡ (check format s then placeAfter (format .frame) s)
+pub append-by : {A : Type 0} (format : Format A) (s r : List ℕ) → appendAnswer format (Gives r) s ≡ (check format s then placeAfter (format .frame) s then takenBy format r)
 unfolding appendAnswer
 append-by format s r = refl
 
@@ -69,29 +69,37 @@ module _ {A : Type 0} (format : Format A) (r s : List ℕ) where
   unfolding appendBuffer
   kept e f = (sym e, rw (e, f))
 
+  -- by what the check answers
+  by-check : {x : Answer ℕ} → check format s ≡ x → appendAnswer format (Gives r) s ≡ (x then placeAfter (format .frame) s then takenBy format r)
+  by-check e = append-by format s r ∙ ap (λ (x : Answer ℕ). x then placeAfter (format .frame) s then takenBy format r) e
+
   pub append-refused : (n : ℕ) → check format s ≡ Refused n → Appends (Refused n) s
-  append-refused n e = kept (append-by format s r ∙ ap (λ (x : Answer ℕ). x then placeAfter (format .frame) s) e) refl
+  append-refused n e = kept (by-check e) refl
 
   pub append-bad : (n place : ℕ) → check format s ≡ RefusedAt n place → Appends (RefusedAt n place) s
-  append-bad n place e = kept (append-by format s r ∙ ap (λ (x : Answer ℕ). x then placeAfter (format .frame) s) e) refl
+  append-bad n place e = kept (by-check e) refl
 
   module _ (n : ℕ) (e : check format s ≡ Gives n) where
-    by-place : appendAnswer format (Gives r) s ≡ placeAfter (format .frame) s n
-    by-place = append-by format s r ∙ ap (λ (x : Answer ℕ). x then placeAfter (format .frame) s) e
+    by-place : {x : Answer ℕ} → placeAfter (format .frame) s n ≡ x → appendAnswer format (Gives r) s ≡ (x then takenBy format r)
+    by-place p = by-check e ∙ ap (λ (x : Answer ℕ). x then takenBy format r) p
 
     pub append-full : format .frame .most ≤ n → Appends (Refused noRoom) s
-    append-full h = kept (by-place ∙ full (format .frame) s n h) refl
+    append-full h = kept (by-place (full (format .frame) s n h)) refl
 
     pub append-short : n < format .frame .most → length s < lengthSaid s + lengthSize + format .frame .size → Appends (Refused noRoom) s
-    append-short h g = kept (by-place ∙ no-bytes-left (format .frame) s n h g) refl
+    append-short h g = kept (by-place (no-bytes-left (format .frame) s n h g)) refl
+
+    -- there is room, but the record is none of the format
+    pub append-untaken : n < format .frame .most → lengthSaid s + lengthSize + format .frame .size ≤ length s → soundBy format r ≡ false → Appends (Refused guessedDate) s
+    append-untaken h g u = kept (by-place (room-left (format .frame) s n h g) ∙ rw u) refl
 
     -- the record is stored after the book, then the length
-    pub append-writes : n < format .frame .most → lengthSaid s + lengthSize + format .frame .size ≤ length s → length r ≡ format .frame .size →
+    pub append-writes : n < format .frame .most → lengthSaid s + lengthSize + format .frame .size ≤ length s → soundBy format r ≡ true → length r ≡ format .frame .size →
         {at m : ℕ} → at ≡ lengthSaid s + lengthSize → m ≡ lengthSaid s + format .frame .size →
         {l l′ : List ℕ} → l ≡ sets s at r → l′ ≡ sets l 0 (bigBytes lengthSize m) → Appends (Gives n) l′
     unfolding appendBuffer
-    append-writes h g z p q d d′ =
-        let a = by-place ∙ room-left (format .frame) s n h g in (sym a, rw (a, d′, d, p, q) (stores-are (format .frame) r s z g))
+    append-writes h g w z p q d d′ =
+        let a : appendAnswer format (Gives r) s ≡ Gives n = by-place (room-left (format .frame) s n h g) ∙ rw w in (sym a, rw (a, d′, d, p, q) (stores-are (format .frame) r s z g))
 
 -- ---- a new book, as stores make it
 

@@ -11,8 +11,8 @@ use lib.Dec.{leb, ltb, lit<}
 use lib.ListN.{length, take, drop, length-append, length-drop, take-append-drop}
 use lib.Seq.{length-take-le, take-at, drop-at, getD-at, drop-append-add}
 use Rattle.rules.specs.Words.{bigBytes}
-use Rattle.rules.specs.Refusals.{Answer, Gives, Refused, RefusedAt, _then_, given, noRoom}
-use Rattle.rules.specs.Book.{Frame, Format, soundBy, lengthSize, headSize, lengthSaid, versionOf, pieces, framed, firstBad, allPass, records, check, pick, recordAt, entryAt, placeAfter, appendAnswer, appended, appendBuffer, newAnswer, newBuffer}
+use Rattle.rules.specs.Refusals.{Answer, Gives, Refused, RefusedAt, _then_, given, noRoom, guessedDate}
+use Rattle.rules.specs.Book.{Frame, Format, soundBy, lengthSize, headSize, lengthSaid, versionOf, pieces, framed, firstBad, allPass, records, check, pick, recordAt, entryAt, placeAfter, takenBy, appendAnswer, appended, appendBuffer, newAnswer, newBuffer}
 use Rattle.rules.proofs.Shared.Rests.{here}
 use Rattle.rules.proofs.OnKinds.KindLaws.{left, right}
 use Rattle.rules.proofs.OnWords.ByteLaws.{byte-count, number-back}
@@ -27,27 +27,31 @@ module _ {A : Type 0} (format : Format A) (sensible : Sensible (format .frame)) 
   abbrev k : ℕ
   k = format .frame .size
 
-  -- what the place tells: so many records stood there, fewer than the most, and there was room
-  pub record Room (s : List ℕ) (n : ℕ) : Type 0 where
+  -- what the place tells: so many records stood there, fewer than the most, there was room, and the record is one of the format
+  pub record Room (r s : List ℕ) (n : ℕ) : Type 0 where
     pub count : Counted format sensible s n
     pub less : n < format .frame .most
     pub room : lengthSaid s + lengthSize + k ≤ length s
+    pub well : soundBy format r ≡ true
 
-  pub place-tells : (r s : List ℕ) (n : ℕ) → appendAnswer format (Gives r) s ≡ Gives n → Room s n
+  pub place-tells : (r s : List ℕ) (n : ℕ) → appendAnswer format (Gives r) s ≡ Gives n → Room r s n
   place-tells r s n e =
-      let c = then-met (check format s) (placeAfter (format .frame) s) n (sym (append-by format s r) ∙ e) in
+      let taken = then-met (check format s then placeAfter (format .frame) s) (takenBy format r) n (sym (append-by format s r) ∙ e) in
+      let p = demand-met (soundBy format r) guessedDate (Gives (taken .value)) n (taken .next) in
+      let same : taken .value ≡ n = cc (p .1) in
+      let c = then-met (check format s) (placeAfter (format .frame) s) n (taken .is ∙ ap Gives same) in
       let m = c .value in
       let t = ltb m (format .frame .most) in
       let g = demand-met (t && leb (lengthSaid s + lengthSize + k) (length s)) noRoom (Gives m) n (c .next) in
       let z : m ≡ n = cc (g .1) in
       let l : m < format .frame .most = ltb-true m (format .frame .most) (left t _ (g .0)) in
-      record { count = counted format sensible s n (c .is ∙ ap Gives z); less = omega arith; room = leb-true _ _ (right t _ (g .0)) }
+      record { count = counted format sensible s n (c .is ∙ ap Gives z); less = omega arith; room = leb-true _ _ (right t _ (g .0)); well = p .0 }
 
   module _ (r s : List ℕ) (n : ℕ) (e : appendAnswer format (Gives r) s ≡ Gives n) (size : length r ≡ k) where
     abbrev pub after : List ℕ
     after = appendBuffer format (Gives r) s
 
-    pub told : Room s n
+    pub told : Room r s n
     told = place-tells r s n e
 
     -- the records that stood there
@@ -114,59 +118,58 @@ module _ {A : Type 0} (format : Format A) (sensible : Sensible (format .frame)) 
         let z : lengthSaid s + k + lengthSize ≡ lengthSaid s + lengthSize + k = omega arith in
         rw (said-after, z, e) (drop-at (head ++ take (lengthSaid s) (drop lengthSize s) ++ r) past _ front)
 
-    module _ (well : soundBy format r ≡ true) where
-      pub holds-after : Holds format after (rs ++ r ∷ [])
-      holds-after =
-          let h = told .count .holds in let c = told .count .count in
-          let more : length (rs ++ r ∷ []) ≡ suc n = rw (length-append, c) (omega arith) in
-          let front : drop headSize s ≡ old ++ drop (n * k) (drop headSize s) = sym (take-append-drop (n * k) (drop headSize s)) in
-          let cut : pieces n k old ≡ rs =
-          sym (pieces-front n k old (drop (n * k) (drop headSize s)) old-long) ∙ ap (pieces n k) (sym front) ∙ rw c at (h .frame .cut) in
-          let a = said in let b = told .room in let l = told .less in let t = said-after in let u = same-length in
-          record {
-            frame = record {
-              says = rw more (omega arith);
-              most = rw more (omega arith);
-              fits = rw (more, same-length) (omega arith);
-              version = rw in-parts (getD-at head (versionOf s) (old ++ (r ++ past)) 0 lengthSize four ∙ h .frame .version);
-              cut = rw (more, behind-head) (pieces-more n k old r past old-long size ∙ ap (λ (l : List (List ℕ)). l ++ r ∷ []) cut);
-            };
-            sound = one-more (soundBy format) rs r (h .sound) well;
-          }
+    pub holds-after : Holds format after (rs ++ r ∷ [])
+    holds-after =
+        let h = told .count .holds in let c = told .count .count in
+        let more : length (rs ++ r ∷ []) ≡ suc n = rw (length-append, c) (omega arith) in
+        let front : drop headSize s ≡ old ++ drop (n * k) (drop headSize s) = sym (take-append-drop (n * k) (drop headSize s)) in
+        let cut : pieces n k old ≡ rs =
+        sym (pieces-front n k old (drop (n * k) (drop headSize s)) old-long) ∙ ap (pieces n k) (sym front) ∙ rw c at (h .frame .cut) in
+        let a = said in let b = told .room in let l = told .less in let t = said-after in let u = same-length in
+        record {
+          frame = record {
+            says = rw more (omega arith);
+            most = rw more (omega arith);
+            fits = rw (more, same-length) (omega arith);
+            version = rw in-parts (getD-at head (versionOf s) (old ++ (r ++ past)) 0 lengthSize four ∙ h .frame .version);
+            cut = rw (more, behind-head) (pieces-more n k old r past old-long size ∙ ap (λ (l : List (List ℕ)). l ++ r ∷ []) cut);
+          };
+          sound = one-more (soundBy format) rs r (h .sound) (told .well);
+        }
 
-      records-after : records format after ≡ Gives (rs ++ r ∷ [])
-      records-after = holds-found format sensible after (rs ++ r ∷ []) holds-after
+    records-after : records format after ≡ Gives (rs ++ r ∷ [])
+    records-after = holds-found format sensible after (rs ++ r ∷ []) holds-after
 
-      -- the check counts one more
-      pub count-after : check format after ≡ Gives (n + 1)
-      unfolding check
-      count-after = rw (records-after, length-append, told .count .count)
+    -- the check counts one more
+    pub count-after : check format after ≡ Gives (n + 1)
+    unfolding check
+    count-after = rw (records-after, length-append, told .count .count)
 
-      -- the old places give the old records
-      pub old-after : (i : ℕ) → i < n → recordAt format after i ≡ recordAt format s i
-      unfolding recordAt
-      old-after i h = rw (records-after, told .count .found) (pick-old rs (r ∷ []) i (let c = told .count .count in omega arith))
+    -- the old places give the old records
+    pub old-after : (i : ℕ) → i < n → recordAt format after i ≡ recordAt format s i
+    unfolding recordAt
+    old-after i h = rw (records-after, told .count .found) (pick-old rs (r ∷ []) i (let c = told .count .count in omega arith))
 
-      -- and the new place the new one
-      pub new-after : recordAt format after n ≡ Gives r
-      unfolding recordAt
-      new-after = rw records-after (ap (pick (rs ++ r ∷ [])) (sym (told .count .count)) ∙ pick-new rs r)
+    -- and the new place the new one
+    pub new-after : recordAt format after n ≡ Gives r
+    unfolding recordAt
+    new-after = rw records-after (ap (pick (rs ++ r ∷ [])) (sym (told .count .count)) ∙ pick-new rs r)
 
--- ---- the same of what the records are, where the new one's bytes are a
+-- ---- the same of what the records are
 
 module _ {A : Type 0} (format : Format A) (sensible : Sensible (format .frame)) (r s : List ℕ) (n : ℕ) (e : appendAnswer format (Gives r) s ≡ Gives n)
-    (size : length r ≡ format .frame .size) (a : A) (is : format .entry r ≡ Gives a) where
+    (size : length r ≡ format .frame .size) where
   abbrev left-by : List ℕ
   left-by = appendBuffer format (Gives r) s
 
   pub count-more : check format left-by ≡ Gives (n + 1)
-  count-more = count-after format sensible r s n e size (ap given is)
+  count-more = count-after format sensible r s n e size
 
   pub old-entries : (i : ℕ) → i < n → entryAt format left-by i ≡ entryAt format s i
-  old-entries i h = entry-by format left-by i (old-after format sensible r s n e size (ap given is) i h) ∙ sym (entry-by format s i refl)
+  old-entries i h = entry-by format left-by i (old-after format sensible r s n e size i h) ∙ sym (entry-by format s i refl)
 
-  pub new-entry : entryAt format left-by n ≡ Gives a
-  new-entry = entry-by format left-by n (new-after format sensible r s n e size (ap given is)) ∙ is
+  pub new-entry : entryAt format left-by n ≡ format .entry r
+  new-entry = entry-by format left-by n (new-after format sensible r s n e size)
 
 -- ---- a new book has no record
 

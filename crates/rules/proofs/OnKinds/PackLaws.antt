@@ -4,7 +4,6 @@ use mathlib.Core.Path.{_≡_, refl, _∙_, sym, ap, subst}
 use mathlib.Core.Bool.{Bool, true, false}
 use Prim.Native.Nat.{ℕ, _+_, _*_, _/_, _%_, _≤_, _<_}
 use native.Mathlib.Omega.{arith}
-use borrow.Author.Tests.{eqb-true}
 use lib.Dec.{T, lit<}
 use lib.IntN.{ℤ}
 use Rattle.rules.specs.Refusals.{Answer, Gives, Refused, demand, given, notOfKind}
@@ -32,17 +31,13 @@ pub word-alone : (d : Stored) → packed (unpacked d) ≡ d .word / 4 * 4
 unfolding packed
 word-alone d = omega arith
 
--- without a mark it is the packed word
-pub plain-word : (f : Fields) → wordOf noMark f ≡ packed f
-plain-word f = omega arith
-
 pub mark-back : (mark : ℕ) (f : Fields) → mark < 4 → markOf (wordOf mark f) ≡ mark
 unfolding packed
 mark-back mark f h = omega arith
 
-pub word-fits : (k : Kind) (f : Fields) → ofKind k f ≡ true → packed f < 65536
+pub word-fits : (k : Kind) (mark : ℕ) (f : Fields) → mark < 4 → ofKind k f ≡ true → wordOf mark f < 65536
 unfolding packed
-word-fits k f p = let t = fit k f p in let d = day-small k f p in let h = hour-small k f p in omega arith
+word-fits k mark f m p = let t = fit k f p in let d = day-small k f p in let h = hour-small k f p in omega arith
 
 -- the fields come back, whatever the mark
 pub unpack-pack : (k : Kind) (mark : ℕ) (f : Fields) → mark < 4 → ofKind k f ≡ true → unpacked (storedWith mark f) ≡ f
@@ -50,6 +45,10 @@ unfolding packed
 unpack-pack k mark f m p =
     let d = day-small k f p in let h = hour-small k f p in
     same-fields refl (omega arith) (omega arith) (omega arith)
+
+-- without a mark a date is stored as its fields are
+pub unmarked : (d : Stored) → markOf (d .word) ≡ noMark → stored (unpacked d) ≡ d
+unmarked d e = same-stored refl (ap (λ mark. wordOf mark (unpacked d)) (sym e) ∙ word-of d)
 
 -- ---- a date handed in
 
@@ -98,13 +97,3 @@ module _ (k : Kind) (d : Stored) where
           subst Handed same (record { allowed = p; of-kind = q; stored-is = same-stored refl (word-of d) })
       inner true false p q r = let z : _≡_ {A = ℕ} 0 1 = cc in absurd (omega arith)
       inner false t p q r = let z : _≡_ {A = ℕ} 0 1 = cc in absurd (omega arith)
-
--- ---- no mark but 0 is allowed, so a date handed in is stored as its fields are
-
-pub unmarked : (k : Kind) (d : Stored) → given (handed k d) ≡ true → stored (unpacked d) ≡ d
-unmarked k d g =
-    let t = handed-tells k d (unpacked d) (handed-by k d g) in
-    ap (λ (mark : ℕ). storedWith mark (unpacked d)) (sym (eqb-true (markOf (d .word)) noMark (t .allowed))) ∙ t .stored-is
-
-pub unmarked-word : (k : Kind) (d : Stored) → given (handed k d) ≡ true → packed (unpacked d) ≡ d .word
-unmarked-word k d g = sym (plain-word (unpacked d)) ∙ ap (λ (x : Stored). x .word) (unmarked k d g)

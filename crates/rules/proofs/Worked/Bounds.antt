@@ -36,7 +36,7 @@ fields =
     ∷ (fromFields kV (on (pos 1444) 2 28 18) is date (pos 1444) 2 28 18)
     ∷ (fromFields kV (on (pos 1444) 2 28 17) is Refused 4)
     ∷ (handed kE (bits (pos 1444) 46552) is date (pos 1444) 11 11 22)
-    ∷ (handed kE (bits (pos 1444) 46553) is Refused 4)
+    ∷ (handed kE (bits (pos 1444) 46553) is date (pos 1444) 11 11 22)
     ∷ (handed kE (bits (pos 1444) 46554) is Refused 4)
     ∷ (handed kE (bits (pos 1444) 46556) is Refused 4)
     ∷ (handed kR (bits (pos 1444) 46556) is date (pos 1444) 11 11 23)

@@ -97,7 +97,7 @@ counts =
     ∷ (check version1 one is Gives 1)
     ∷ (appendAnswer version1 (entryFor 2 (bits (pos 1444) 46464)) (newBuffer (version1 .frame .version) (replicate 12 7)) is Gives 0)
     ∷ (appendAnswer version1 (entryFor 2 (bits (pos 1444) 46464)) one is Refused 12)
-    ∷ (appendAnswer version1 (entryFor 2 (bits (pos 1444) 46465)) (replicate 4 0) is Refused 4)
+    ∷ (appendAnswer version1 (entryFor 2 (bits (pos 1444) 46466)) (replicate 4 0) is Refused 4)
     ∷ (appendAnswer version1 (entryFor 7 (bits (pos 1444) 46464)) (replicate 4 0) is Refused 4)
     ∷ []
 

@@ -4,7 +4,7 @@ use mathlib.Core.Path.{_≡_, refl, ap}
 use mathlib.Core.Bool.{cond}
 use Prim.Native.Nat.{ℕ}
 use lib.Dec.{eqb}
-use Rattle.rules.specs.Refusals.{Answer, Gives, Refused, RefusedAt, notOfKind, badLength, badVersion}
+use Rattle.rules.specs.Refusals.{Answer, Gives, Refused, RefusedAt, notOfKind, badLength, badVersion, noRoom}
 use Rattle.rules.proofs.OnRefusals.Determined.{Determines, determined}
 use Rattle.kinds.specs.declared.Kind.{Kind}
 use Rattle.kinds.proofs.Determined.{packedOf, kindBack, kind-back}
@@ -27,8 +27,8 @@ checked-determined =
 
 pub appended-determined : Determines appendedAs
 appended-determined =
-    determined appendedAs (backBook A.At A.BadLength A.BadVersion (λ n. cond (eqb n notOfKind) A.NotOfKind A.NoRoom) A.BadRecord)
-    (λ r. elim r [ A.At n ↦ refl | A.NotOfKind ↦ refl | A.BadLength ↦ refl | A.BadVersion ↦ refl | A.BadRecord place ↦ refl | A.NoRoom ↦ refl ])
+    determined appendedAs (backBook A.At A.BadLength A.BadVersion (λ n. cond (eqb n notOfKind) A.NotOfKind (cond (eqb n noRoom) A.NoRoom A.GuessedDate)) A.BadRecord)
+    (λ r. elim r [ A.At n ↦ refl | A.NotOfKind ↦ refl | A.BadLength ↦ refl | A.BadVersion ↦ refl | A.BadRecord place ↦ refl | A.NoRoom ↦ refl | A.GuessedDate ↦ refl ])
 
 -- ---- a record found, by its kind and its bits
 

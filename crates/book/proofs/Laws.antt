@@ -6,25 +6,26 @@ use mathlib.Core.List.{List, [], _∷_, _++_, append-assoc}
 use Prim.Native.Nat.{ℕ, _+_, _*_, _-_, _/_, _≤_, _<_}
 use native.Mathlib.Nat.{add-zero}
 use native.Mathlib.Omega.{arith}
+use borrow.Author.Tests.{eq-eqb, ne-eqb}
 use lib.Dec.{T}
 use lib.IntN.{ℤ}
 use lib.ListN.{length, getD, take, drop, length-drop}
 use lib.Seq.{sets, sets-eq, getD-take, getD-drop, length-take-le, take-length, drop-drop}
 use borrow.Rule.Slice.PartMut.{putMid, midOf}
-use Rattle.rules.specs.Words.{bigEndian, bigBytes}
+use Rattle.rules.specs.Words.{bigEndian}
 use Rattle.rules.specs.Refusals.{Answer, Gives, Refused, RefusedAt, given, notOfKind, noRecord}
 use Rattle.rules.specs.Kinds as K
-use Rattle.rules.specs.Kinds.{Stored, handed}
-use Rattle.rules.specs.Book.{Format, headSize, kindCode, kindOfCode, yearOfTwos, entryBytes, Entry, entryFrom, entryOf, lengthSaid, check, version1, entryAt, entryFor}
+use Rattle.rules.specs.Kinds.{Stored, markOf, noMark, handed}
+use Rattle.rules.specs.Book.{Format, headSize, kindCode, kindOfCode, yearOfTwos, Entry, entryFrom, entryOf, lengthSaid, check, version1, entryAt, entryFor}
 use Rattle.rules.proofs.Shared.Rests as R
 use Rattle.rules.proofs.OnSpelling.WriteLaws.{tail-lent, tail-back}
 use Rattle.rules.proofs.OnBook.FrameLaws.{Sensible}
 use Rattle.rules.proofs.OnBook.BookLaws.{entry-by, Counted, counted, checked, ends-inside, record-here, record-none, sound-here}
-use Rattle.rules.proofs.OnBook.EntryLaws.{entry-for}
+use Rattle.rules.proofs.OnBook.EntryLaws.{entry-long, entry-for}
 use Rattle.kinds.specs.declared.Kind.{Kind}
 use Rattle.kinds.specs.declared.Packed.{Packed}
 use Rattle.kinds.specs.Views.{kindOf, bitsOf}
-use Rattle.rules.proofs.OnKinds.PackLaws.{handed-by, unmarked, unmarked-word}
+use Rattle.rules.proofs.OnKinds.PackLaws.{handed-by, unmarked}
 use Rattle.frame.specs.Views.{frameOf}
 use Rattle.book.specs.Views.{dateSize, leastSize, entrySized, bookOf, inBits, bytesOf}
 
@@ -98,25 +99,27 @@ module _ (code y₁ y₀ w₁ w₀ : ℕ) where
     abbrev date : Stored
     date = record { year = year; word = word }
 
-    pub of-kind : given (handed k date) ≡ true → inBits (entryOf five) ≡ Gives (record { kind = k; date = date })
+    pub has-mark : (markOf word ≡ noMark → ⊥) → inBits (entryOf five) ≡ Refused notOfKind
     unfolding entryFrom
-    of-kind g = rw (e, two y₁ y₀, two w₁ w₀, ← y, ← w, handed-by k date g, unmarked k date g)
+    has-mark m = rw (e, two y₁ y₀, two w₁ w₀, ← y, ← w, ne-eqb (markOf word) noMark m)
 
-    pub not-of-kind : given (handed k date) ≡ false → inBits (entryOf five) ≡ Refused notOfKind
-    unfolding entryFrom
-    not-of-kind g = rw (e, two y₁ y₀, two w₁ w₀, ← y, ← w, handed-by k date g)
+    module _ (m : markOf word ≡ noMark) where
+      pub of-kind : given (handed k date) ≡ true → inBits (entryOf five) ≡ Gives (record { kind = k; date = date })
+      unfolding entryFrom
+      of-kind g = rw (e, two y₁ y₀, two w₁ w₀, ← y, ← w, eq-eqb (markOf word) noMark m, handed-by k date g, unmarked date m)
+
+      pub not-of-kind : given (handed k date) ≡ false → inBits (entryOf five) ≡ Refused notOfKind
+      unfolding entryFrom
+      not-of-kind g = rw (e, two y₁ y₀, two w₁ w₀, ← y, ← w, eq-eqb (markOf word) noMark m, handed-by k date g)
 
 -- ---- the record of a date handed in
 
 pub five-long : (k : Kind) (d : Packed) → length (bytesOf k d) ≡ 5
-unfolding bigBytes
-five-long k d = refl
+five-long k d = entry-long (kindOf k) (bitsOf d)
 
 module _ (k : Kind) (d : Packed) where
   pub entry-given : given (handed (kindOf k) (bitsOf d)) ≡ true → entryFor (kindCode (kindOf k)) (bitsOf d) ≡ Gives (bytesOf k d)
-  unfolding entryBytes
-  entry-given g =
-      entry-for (kindOf k) (bitsOf d) ∙ rw (handed-by (kindOf k) (bitsOf d) g, unmarked-word (kindOf k) (bitsOf d) g)
+  entry-given g = entry-for (kindOf k) (bitsOf d) ∙ rw (handed-by (kindOf k) (bitsOf d) g)
 
   pub entry-not : given (handed (kindOf k) (bitsOf d)) ≡ false → entryFor (kindCode (kindOf k)) (bitsOf d) ≡ Refused notOfKind
   entry-not g = entry-for (kindOf k) (bitsOf d) ∙ rw (handed-by (kindOf k) (bitsOf d) g)

@@ -1,9 +1,8 @@
 -- The format of a book from the size of its records, and the code's answers as those of `rules`. Assumes nothing.
 use Prim.Native.Nat.{ℕ, _+_, _-_}
 use mathlib.Core.Bool.{Bool}
-use mathlib.Core.List.{List, _∷_, _++_}
-use Rattle.rules.specs.Words.{bigBytes}
-use Rattle.rules.specs.Refusals.{Answer, Gives, Refused, RefusedAt, _then_, given, notOfKind, badLength, badVersion, badRecord, noRoom, noRecord}
+use mathlib.Core.List.{List}
+use Rattle.rules.specs.Refusals.{Answer, Gives, Refused, RefusedAt, _then_, given, notOfKind, badLength, badVersion, badRecord, noRoom, noRecord, guessedDate}
 use Rattle.rules.specs.Kinds as K
 use Rattle.rules.specs.Book as B
 use Rattle.kinds.specs.declared.Kind.{Kind}
@@ -48,7 +47,7 @@ inBits a = a then λ e. Gives (record { kind = e .kind; date = K.stored (e .date
 
 -- the five bytes of a date's record, from its bits
 abbrev pub bytesOf : Kind → Packed → List ℕ
-bytesOf k d = B.kindCode (kindOf k) ∷ bigBytes 2 (B.twosComplement (d .year)) ++ bigBytes 2 (d .word)
+bytesOf k d = B.entryBytes (kindOf k) (bitsOf d)
 
 abbrev pub slotAs : Slot → Answer Bits
 slotAs (S.Record k d) = Gives (record { kind = kindOf k; date = bitsOf d })
@@ -74,3 +73,4 @@ appendedAs A.BadLength = Refused badLength
 appendedAs A.BadVersion = Refused badVersion
 appendedAs (A.BadRecord place) = RefusedAt badRecord place
 appendedAs A.NoRoom = Refused noRoom
+appendedAs A.GuessedDate = Refused guessedDate

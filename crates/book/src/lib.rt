@@ -46,6 +46,7 @@ pub enum Appended {
     BadVersion,
     BadRecord(usize),
     NoRoom,
+    GuessedDate,
 }
 
 // Whether the buffer starts with a book, and how many records it has.
@@ -79,7 +80,8 @@ pub fn new(b: &mut [u8]) -> Started
     frame::new(b, VERSION)
 }
 
-// Writes the record of a date after the last, and gives its place. A date not of the kind is refused before the book is looked at.
+// Writes the record of a date after the last, and gives its place. A date not of the kind is refused before the book is looked at, a
+// guessed one where there would be room for it.
 pub fn append(b: &mut [u8], kind: Kind, date: Packed) -> Appended
     ensures { λ r. ⌜ appendedAs r ≡ appendAnswer version1 (entryFor (kindCode (kindOf kind)) (bitsOf date)) (now (b .entry)) ⌝ }
     ensures { λ r. ⌜ now (b .exit) ≡ appendBuffer version1 (entryFor (kindCode (kindOf kind)) (bitsOf date)) (now (b .entry)) ⌝ }

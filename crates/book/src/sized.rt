@@ -82,7 +82,8 @@ pub fn record_of(b: &[u8], place: usize, size: usize, most: usize, version: u8) 
     }
 }
 
-// Writes a record's bytes after the last record, and gives its place. The record's length is the size of the book's records.
+// Writes a record's bytes after the last record, and gives its place. The record's length is the size of the book's records; bytes that
+// are none of them, those of a guessed date, are refused last.
 pub fn append_record(b: &mut [u8], piece: &[u8], most: usize, version: u8) -> Appended
     requires { ⌜ (leastSize ≤ length (now piece)) × (1 + most * length (now piece) < 4294967296) ⌝ }
     ensures { λ r. ⌜ appendedAs r ≡ appendAnswer (bookOf (length (now (piece .entry))) most version) (Gives (now (piece .entry))) (now (b .entry)) ⌝ }
@@ -99,9 +100,12 @@ pub fn append_record(b: &mut [u8], piece: &[u8], most: usize, version: u8) -> Ap
             if b.len() < at + size {
                 return Appended::NoRoom;
             }
-            slots::put(b, at, piece);
-            frame::put_length(b, 1 + (n + 1) * size);
-            Appended::At(n)
+            if slots::sound_at(piece, 0, size) {
+                slots::put(b, at, piece);
+                frame::put_length(b, 1 + (n + 1) * size);
+                return Appended::At(n);
+            }
+            Appended::GuessedDate
         }
         Checked::BadLength => Appended::BadLength,
         Checked::BadVersion => Appended::BadVersion,

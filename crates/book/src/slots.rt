@@ -1,5 +1,5 @@
 // One record of a book: a kind's code in its first byte; in its last four a year in two's complement and a packed word, the larger byte
-// first.
+// first. The word has no mark.
 ghost use mathlib.Core.Path.{_≡_};
 ghost use mathlib.Core.List.{[], _∷_};
 ghost use Prim.Native.Nat.{_+_, _*_, _≤_};
@@ -10,6 +10,7 @@ ghost use Rattle.book.specs.Views.{leastSize, entrySized, soundSized, by
 use crate::SIZE;
 use codes::Coded;
 use kinds::Kind;
+use kinds::NO_MARK;
 use kinds::Packed;
 
 // The bytes of a date: two of its year, two of its word.
@@ -36,8 +37,10 @@ fn slot_of(code: u8, y1: u8, y0: u8, w1: u8, w0: u8) -> Slot
             let year = codes::year_of_twos(join2(y1, y0));
             let word = join2(w1, w0);
             let date = Packed { year, word };
-            if kinds::is_of_kind(kind, date) {
-                return Slot::Record { kind, date };
+            if kinds::mark_of(date) == NO_MARK {
+                if kinds::is_of_kind(kind, date) {
+                    return Slot::Record { kind, date };
+                }
             }
             Slot::None
         }
@@ -65,7 +68,7 @@ pub fn sound_at(b: &[u8], at: usize, size: usize) -> bool
     }
 }
 
-// The five bytes of version 1's record of a date.
+// The five bytes of version 1's record of a date, its word as it is.
 pub fn bytes_of(kind: Kind, date: Packed) -> [u8; SIZE]
     ensures { λ r. ⌜ r ≡ bytesOf kind date ⌝ }
 {

@@ -3,7 +3,7 @@ ghost use mathlib.Core.Path.{_≡_};
 ghost use Prim.Native.Nat.{_≤_};
 ghost use lib.ListN.{length};
 ghost use Rattle.rules.specs.Refusals.{Gives};
-ghost use Rattle.rules.specs.Kinds.{kD, unpacked, least, greatest, fromFields, stored, store, ofDate, ofDates};
+ghost use Rattle.rules.specs.Kinds.{kD, unpacked, least, greatest, fromFields, stored, storeGuess, store, storeLike, ofDate, ofDates, isGuessed, withoutMark};
 ghost use Rattle.rules.specs.Numbers.{readNumber, guessNumber, writeNumber};
 ghost use Rattle.rules.specs.Days.{addDays, difference, order};
 ghost use Rattle.rules.specs.Text.{plusAllowed, shapeAllowed, readText};
@@ -164,6 +164,24 @@ impl Date {
         kinds::hour_of(self.raw)
     }
 
+    // Whether the date was guessed, by its mark as it is stored.
+    pub fn is_guessed(self) -> bool
+        ensures { λ r. ⌜ r ≡ isGuessed (bits self) ⌝ }
+    {
+        kinds::is_guessed(self.raw)
+    }
+
+    // The same date without its mark.
+    pub fn without_mark(self) -> Made
+        ensures { λ r. ⌜ madeAs r ≡ withoutMark kD (bits self) ⌝ }
+    {
+        let made = kinds::without_mark(Kind::Date, self.raw);
+        match made {
+            kinds::Made::Date(raw) => Made::Date(Date { raw }),
+            kinds::Made::None => Made::NotOfKind,
+        }
+    }
+
     // The plain reader: the length, D's own rules, the leading number, the rest.
     fn plain(s: &[u8]) -> Parsed
         ensures { λ r. ⌜ parsedAs r ≡ store (readText kD (now (s .entry))) ⌝ }
@@ -221,9 +239,9 @@ impl Date {
         }
     }
 
-    // For a number that no one declared.
+    // For a number that no one declared: its date is marked as guessed.
     pub fn from_binary_heuristic(s: i32) -> Guessed
-        ensures { λ r. ⌜ guessedAs r ≡ store (guessNumber kD s) ⌝ }
+        ensures { λ r. ⌜ guessedAs r ≡ storeGuess (guessNumber kD s) ⌝ }
     {
         let guess = number::from_binary_heuristic(Kind::Date, s);
         match guess {
@@ -238,9 +256,9 @@ impl Date {
         number::to_binary(Kind::Date, self.raw)
     }
 
-    // A new date; the old one stays.
+    // A new date, with the mark of the old one, which stays.
     pub fn add_days(self, days: i32) -> Summed
-        ensures { λ r. ⌜ summedAs r ≡ store (ofDate kD (bits self) (λ f. addDays kD f days)) ⌝ }
+        ensures { λ r. ⌜ summedAs r ≡ storeLike (bits self) (ofDate kD (bits self) (λ f. addDays kD f days)) ⌝ }
     {
         let sum = day_count::add_days(Kind::Date, self.raw, days);
         match sum {

@@ -3,7 +3,7 @@ ghost use mathlib.Core.Path.{_≡_};
 ghost use Prim.Native.Nat.{_≤_};
 ghost use lib.ListN.{length};
 ghost use Rattle.rules.specs.Refusals.{Gives};
-ghost use Rattle.rules.specs.Kinds.{kH, unpacked, least, greatest, fromFields, stored, store, ofDate, ofDates};
+ghost use Rattle.rules.specs.Kinds.{kH, unpacked, least, greatest, fromFields, stored, storeGuess, store, ofDate, ofDates, isGuessed, withoutMark};
 ghost use Rattle.rules.specs.Numbers.{readNumber, guessNumber, writeNumber};
 ghost use Rattle.rules.specs.Days.{order};
 ghost use Rattle.rules.specs.Text.{readText};
@@ -110,6 +110,23 @@ impl DateHour {
     {
         kinds::hour_of(self.raw)
     }
+    // Whether the date was guessed, by its mark as it is stored.
+    pub fn is_guessed(self) -> bool
+        ensures { λ r. ⌜ r ≡ isGuessed (bits self) ⌝ }
+    {
+        kinds::is_guessed(self.raw)
+    }
+
+    // The same date without its mark.
+    pub fn without_mark(self) -> Made
+        ensures { λ r. ⌜ madeAs r ≡ withoutMark kH (bits self) ⌝ }
+    {
+        let made = kinds::without_mark(Kind::Hour, self.raw);
+        match made {
+            kinds::Made::Date(raw) => Made::Date(DateHour { raw }),
+            kinds::Made::None => Made::NotOfKind,
+        }
+    }
 
     pub fn parse(s: &[u8]) -> Parsed
         ensures { λ r. ⌜ parsedAs r ≡ store (readText kH (now (s .entry))) ⌝ }
@@ -152,9 +169,9 @@ impl DateHour {
         }
     }
 
-    // For a number that no one declared.
+    // For a number that no one declared: its date is marked as guessed.
     pub fn from_binary_heuristic(s: i32) -> Guessed
-        ensures { λ r. ⌜ guessedAs r ≡ store (guessNumber kH s) ⌝ }
+        ensures { λ r. ⌜ guessedAs r ≡ storeGuess (guessNumber kH s) ⌝ }
     {
         let guess = number::from_binary_heuristic(Kind::Hour, s);
         match guess {

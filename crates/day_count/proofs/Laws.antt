@@ -14,10 +14,10 @@ use Rattle.sign.proofs.Laws.{same, ints, one-side, yes-lt, no-lt, yes-le, no-le
 use Rattle.rules.specs.Words.{minus}
 use Rattle.rules.specs.Refusals.{Answer, Gives, Refused, sumOverflows, outOfRange}
 use Rattle.rules.specs.Calendar.{monthDay, monthLength}
-use Rattle.rules.specs.Kinds.{Kind, kR, kD, kH, kU, kE, kV, Fields, ofKind, Stored, store, handed, ofDate}
+use Rattle.rules.specs.Kinds.{Kind, kR, kD, kH, kU, kE, kV, Fields, ofKind, Stored, storeLike, handed, ofDate}
 use Rattle.rules.specs.Days.{addDays, dayNumberAt, countsDays, dayFields, summed, summedHour}
 use Rattle.rules.proofs.OnKinds.KindLaws.{fit, month-fits}
-use Rattle.rules.proofs.OnDays.OrderLaws.{day-small, hour-small}
+use Rattle.rules.proofs.OnDays.OrderLaws.{hour-small}
 use Rattle.rules.proofs.OnKinds.PackLaws.{handed-tells}
 use Rattle.rules.proofs.OnDays.DayLaws.{counter, summed-in}
 use Rattle.day_count.specs.declared.Sum.{Sum}
@@ -115,9 +115,6 @@ module _ (k : Kind) (d : Stored) (f : Fields) (e : handed k d ≡ Gives f) where
   on-calendar c =
       let t = fit k f of-kind in (t .month-low, t .month-high, t .day-low, month-fits k (counter k c) f of-kind)
 
-  pub small-fields : (f .month < 16) × (f .day < 32)
-  small-fields = let t = fit k f of-kind in (omega (arith, t .month-high), day-small k f of-kind)
-
   pub hour-low : summedHour k (f .hour) < 32
   hour-low = low-by k (hour-small k f of-kind)
     where
@@ -132,6 +129,6 @@ module _ (k : Kind) (d : Stored) (f : Fields) (e : handed k d ≡ Gives f) where
 -- ---- a kind's answer, from the core's: the days come to it as 32 bits
 
 pub sum-answers : (k : Kind) (d : Stored) {days : ℤ} {sum r : Sum} → SFits w32 days →
-    summedAs sum ≡ store (ofDate k d (λ f. addDays k f (toZ w32 (ofZ w32 days)))) → sum ≡ r →
-    summedAs r ≡ store (ofDate k d (λ f. addDays k f days))
+    summedAs sum ≡ storeLike d (ofDate k d (λ f. addDays k f (toZ w32 (ofZ w32 days)))) → sum ≡ r →
+    summedAs r ≡ storeLike d (ofDate k d (λ f. addDays k f days))
 sum-answers k d fits is same = ap summedAs (sym same) ∙ (rw (toZ-ofZ fits) at is)

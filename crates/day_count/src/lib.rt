@@ -5,13 +5,12 @@ ghost use mathlib.Core.Path.{_≡_};
 ghost use Prim.Native.Nat.{_-_, _≤_, _<_};
 ghost use lib.IntN.{subℕ, _+ℤ_, _-ℤ_};
 ghost use Rattle.sign.specs.Halves.{Halved};
-ghost use Rattle.rules.specs.Kinds.{stored, store, ofDate, ofDates};
+ghost use Rattle.rules.specs.Kinds.{storedWith, storeWith, storeLike, ofDate, ofDates};
 ghost use Rattle.rules.specs.Days.{dayNumberAt, dayNumber, countsDays, difference, dayFields, summed, summedHour, addDays, hasStart, startOfDay};
 ghost use Rattle.kinds.specs.Views.{kindOf, fieldsOf, bitsOf};
 ghost use Rattle.day_count.specs.Views.{summedAs, countedAs, startAs, OnCalendar};
 use kinds::ExpandedRawDate;
 use kinds::Kind;
-use kinds::NO_MARK;
 use kinds::Opened;
 use kinds::Packed;
 use sign::Halves;
@@ -109,10 +108,10 @@ fn number_of(date: ExpandedRawDate) -> Halves
     day_number(date.year, doy)
 }
 
-// The date of a number in range, with this hour.
-fn date_of(up: u64, dn: u64, hour: u8) -> Packed
-    requires { ⌜ (up - dn ≡ up) × (up ≤ 11960319) × (dn ≤ 11960684) × (hour < 32) ⌝ }
-    ensures { λ r. ⌜ bitsOf r ≡ stored (dayFields (subℕ up dn) hour) ⌝ }
+// The date of a number in range, with this hour and this mark.
+fn date_of(up: u64, dn: u64, hour: u8, mark: u16) -> Packed
+    requires { ⌜ (up - dn ≡ up) × (up ≤ 11960319) × (dn ≤ 11960684) × (hour < 32) × (mark < 4) ⌝ }
+    ensures { λ r. ⌜ bitsOf r ≡ storedWith mark (dayFields (subℕ up dn) hour) ⌝ }
 {
     let year = sign::int16(up / 365, dn / 365);
     let doy = ((up + dn) % 365) as u16;
@@ -123,14 +122,14 @@ fn date_of(up: u64, dn: u64, hour: u8) -> Packed
         day: on.day,
         hour,
     };
-    kinds::pack(NO_MARK, fields)
+    kinds::pack(mark, fields)
 }
 
-// The date of the number up - dn, with this hour, or why there is none. The range is narrower than 32 bits, so a date is
-// found after two tests.
-fn date_at(up: u64, dn: u64, hour: u8) -> Sum
-    requires { ⌜ (up ≤ 4294967296) × (dn ≤ 4294967296) × (hour < 32) ⌝ }
-    ensures { λ r. ⌜ summedAs r ≡ store (summed (subℕ up dn) hour) ⌝ }
+// The date of the number up - dn, with this hour and this mark, or why there is none. The range is narrower than 32 bits, so a date
+// is found after two tests.
+fn date_at(up: u64, dn: u64, hour: u8, mark: u16) -> Sum
+    requires { ⌜ (up ≤ 4294967296) × (dn ≤ 4294967296) × (hour < 32) × (mark < 4) ⌝ }
+    ensures { λ r. ⌜ summedAs r ≡ storeWith mark (summed (subℕ up dn) hour) ⌝ }
 {
     if up + 11960684 < dn {
         if up + 2147483648 < dn {
@@ -145,15 +144,15 @@ fn date_at(up: u64, dn: u64, hour: u8) -> Sum
         return Sum::OutOfRange;
     }
     if up < dn {
-        return Sum::Date(date_of(0, dn - up, hour));
+        return Sum::Date(date_of(0, dn - up, hour, mark));
     }
-    Sum::Date(date_of(up - dn, 0, hour))
+    Sum::Date(date_of(up - dn, 0, hour, mark))
 }
 
-// A date moved by days, with this hour.
-fn moved(date: ExpandedRawDate, days: i32, hour: u8) -> Sum
-    requires { ⌜ OnCalendar date × (hour < 32) ⌝ }
-    ensures { λ r. ⌜ summedAs r ≡ store (summed (dayNumber (fieldsOf date) +ℤ days) hour) ⌝ }
+// A date moved by days, with this hour and this mark.
+fn moved(date: ExpandedRawDate, days: i32, hour: u8, mark: u16) -> Sum
+    requires { ⌜ OnCalendar date × (hour < 32) × (mark < 4) ⌝ }
+    ensures { λ r. ⌜ summedAs r ≡ storeWith mark (summed (dayNumber (fieldsOf date) +ℤ days) hour) ⌝ }
 {
     let n = number_of(date);
     let nu = n.up;
@@ -161,19 +160,25 @@ fn moved(date: ExpandedRawDate, days: i32, hour: u8) -> Sum
     let m = sign::halves32(days);
     let mu = m.up;
     let md = m.dn;
-    date_at(nu + mu, nd + md, hour)
+    date_at(nu + mu, nd + md, hour, mark)
 }
 
-// A date moved by days: its number and the days summed. Past 32 bits the sum overflows; outside the years it is out of range.
+// A date moved by days: its number and the days summed. Past 32 bits the sum overflows; outside the years it is out of range. The sum
+// keeps the mark of the date that it starts from.
 pub fn add_days(kind: Kind, date: Packed, days: i32) -> Sum
-    ensures { λ r. ⌜ summedAs r ≡ store (ofDate (kindOf kind) (bitsOf date) (λ f. addDays (kindOf kind) f days)) ⌝ }
+    ensures { λ r. ⌜ summedAs r ≡ storeLike (bitsOf date) (ofDate (kindOf kind) (bitsOf date) (λ f. addDays (kindOf kind) f days)) ⌝ }
 {
     if counts_days(kind) {
         let opened = kinds::unpack(kind, date);
         let Opened::Fields(fields) = opened else {
             return Sum::NotOfKind;
         };
-        moved(fields, days, summed_hour(kind, fields.hour))
+        moved(
+            fields,
+            days,
+            summed_hour(kind, fields.hour),
+            kinds::mark_of(date),
+        )
     } else {
         Sum::NotOfKind
     }
@@ -212,9 +217,9 @@ pub fn days_until(kind: Kind, first: Packed, second: Packed) -> Days
     }
 }
 
-// The same date with hour 0.
+// The same date with hour 0, and the same mark.
 pub fn start_of_day(kind: Kind, date: Packed) -> Start
-    ensures { λ r. ⌜ startAs r ≡ store (ofDate (kindOf kind) (bitsOf date) (λ f. startOfDay (kindOf kind) f)) ⌝ }
+    ensures { λ r. ⌜ startAs r ≡ storeLike (bitsOf date) (ofDate (kindOf kind) (bitsOf date) (λ f. startOfDay (kindOf kind) f)) ⌝ }
 {
     if has_start(kind) {
         let opened = kinds::unpack(kind, date);
@@ -227,7 +232,7 @@ pub fn start_of_day(kind: Kind, date: Packed) -> Start
             day: on.day,
             hour: 0,
         };
-        Start::Date(kinds::pack(NO_MARK, fields))
+        Start::Date(kinds::pack(kinds::mark_of(date), fields))
     } else {
         Start::NotOfKind
     }

@@ -3,7 +3,7 @@ ghost use mathlib.Core.Path.{_≡_};
 ghost use Prim.Native.Nat.{_≤_};
 ghost use lib.ListN.{length};
 ghost use Rattle.rules.specs.Refusals.{Gives};
-ghost use Rattle.rules.specs.Kinds.{kE, inGameHour, unpacked, least, greatest, fromFields, stored, store, ofDate, ofDates};
+ghost use Rattle.rules.specs.Kinds.{kE, inGameHour, unpacked, least, greatest, fromFields, stored, storeGuess, store, storeLike, ofDate, ofDates, isGuessed, withoutMark};
 ghost use Rattle.rules.specs.Numbers.{readNumber, guessNumber};
 ghost use Rattle.rules.specs.Days.{addDays, difference, startOfDay, order};
 ghost use Rattle.rules.specs.Text.{readText};
@@ -146,6 +146,23 @@ impl Eu5Date {
             Opened::NotOfKind => InGame::NotOfKind,
         }
     }
+    // Whether the date was guessed, by its mark as it is stored.
+    pub fn is_guessed(self) -> bool
+        ensures { λ r. ⌜ r ≡ isGuessed (bits self) ⌝ }
+    {
+        kinds::is_guessed(self.raw)
+    }
+
+    // The same date without its mark.
+    pub fn without_mark(self) -> Made
+        ensures { λ r. ⌜ madeAs r ≡ withoutMark kE (bits self) ⌝ }
+    {
+        let made = kinds::without_mark(Kind::Eu5, self.raw);
+        match made {
+            kinds::Made::Date(raw) => Made::Date(Eu5Date { raw }),
+            kinds::Made::None => Made::NotOfKind,
+        }
+    }
 
     pub fn parse(s: &[u8]) -> Parsed
         ensures { λ r. ⌜ parsedAs r ≡ store (readText kE (now (s .entry))) ⌝ }
@@ -188,9 +205,9 @@ impl Eu5Date {
         }
     }
 
-    // For a number that no one declared.
+    // For a number that no one declared: its date is marked as guessed.
     pub fn from_binary_heuristic(s: i32) -> Guessed
-        ensures { λ r. ⌜ guessedAs r ≡ store (guessNumber kE s) ⌝ }
+        ensures { λ r. ⌜ guessedAs r ≡ storeGuess (guessNumber kE s) ⌝ }
     {
         let guess = number::from_binary_heuristic(Kind::Eu5, s);
         match guess {
@@ -199,9 +216,9 @@ impl Eu5Date {
         }
     }
 
-    // A new date; the old one stays.
+    // A new date, with the mark of the old one, which stays.
     pub fn add_days(self, days: i32) -> Summed
-        ensures { λ r. ⌜ summedAs r ≡ store (ofDate kE (bits self) (λ f. addDays kE f days)) ⌝ }
+        ensures { λ r. ⌜ summedAs r ≡ storeLike (bits self) (ofDate kE (bits self) (λ f. addDays kE f days)) ⌝ }
     {
         let sum = day_count::add_days(Kind::Eu5, self.raw, days);
         match sum {
@@ -218,9 +235,9 @@ impl Eu5Date {
         day_count::days_until(Kind::Eu5, self.raw, other.raw)
     }
 
-    // The same date at 08:00.
+    // The same date at 08:00, with its mark.
     pub fn start_of_day(self) -> Started
-        ensures { λ r. ⌜ startedAs r ≡ store (ofDate kE (bits self) (λ f. startOfDay kE f)) ⌝ }
+        ensures { λ r. ⌜ startedAs r ≡ storeLike (bits self) (ofDate kE (bits self) (λ f. startOfDay kE f)) ⌝ }
     {
         let start = day_count::start_of_day(Kind::Eu5, self.raw);
         match start {

@@ -9,13 +9,13 @@ use lib.IntN.{ℤ}
 use lib.ListN.{length, getD, take, drop}
 use lib.Seq.{drop-drop}
 use Rattle.rules.specs.Refusals.{Answer, Gives, Refused, RefusedAt, _then_, demand, given, noRecord}
-use Rattle.rules.specs.Kinds.{Kind, Fields, Stored, store}
+use Rattle.rules.specs.Kinds.{Kind, Fields, Stored, storeWith}
 use Rattle.rules.specs.Book.{headSize, lengthSaid, versionOf, pieces, pick}
 use Rattle.rules.proofs.OnBook.PieceLaws.{piece-count, pick-past, pick-piece}
 use Rattle.rules.proofs.OnBook.FrameLaws.{Sensible, same-refusal}
 use Rattle.requests.specs.Entries.{ascends, standing}
 use Rattle.requests.specs.Laid.{laid}
-use Rattle.requests.specs.FieldTable.{TableFormat, tableFrame, table1, badEntry, keyIn, codeIn, isKey, declaredKind, gameKind, Declared, declaredBy, entryBytes, entryFor, entries, counted, check, entryAt, declareIn, removeIn, declared, removed, tableBuffer, declareBuffer, removeBuffer, Looked, decode, guess, lookBy, gameFor, lookup}
+use Rattle.requests.specs.FieldTable.{TableFormat, tableFrame, table1, badEntry, keyIn, codeIn, isKey, declaredKind, gameKind, Declared, declaredBy, entryBytes, entryFor, entries, counted, check, entryAt, declareIn, removeIn, declared, removed, tableBuffer, declareBuffer, removeBuffer, Looked, lookedMark, decode, guess, lookBy, gameFor, lookup}
 use Rattle.requests.proofs.OnFieldTable.EntryLaws.{declares, no-key, no-kind, by-its-code, declared-here, declared-none, all-here, first-declares}
 use Rattle.requests.proofs.OnFieldTable.HeldLaws.{Holds, sensible-table, check-entries, check-holds, check-fits, check-most, check-says}
 use Rattle.field_table.specs.declared.sized.Found.the-variants as F
@@ -32,12 +32,12 @@ sensible = sensible-table table1 (lit< tt)
 abbrev pub told : Kind → Bool → Answer Stored → Answer Bits
 told k g x = x then λ d. Gives (record { kind = k; date = d; guessed = g })
 
-stored-so : (k : Kind) (g : Bool) (x : Answer Fields) → told k g (store x) ≡ inBits (_then_ {B = Looked} x (λ f. Gives (record { kind = k; date = f; guessed = g })))
+stored-so : (k : Kind) (g : Bool) (x : Answer Fields) → told k g (storeWith (lookedMark g) x) ≡ inBits (_then_ {B = Looked} x (λ f. Gives (record { kind = k; date = f; guessed = g })))
 stored-so k g (Gives f) = refl
 stored-so k g (Refused n) = refl
 stored-so k g (RefusedAt n place) = refl
 
-pub looked : (k : Kind) (g : Bool) (x : Answer Fields) {y : Answer Stored} → y ≡ store x →
+pub looked : (k : Kind) (g : Bool) (x : Answer Fields) {y : Answer Stored} → y ≡ storeWith (lookedMark g) x →
     told k g y ≡ inBits (_then_ {B = Looked} x (λ f. Gives (record { kind = k; date = f; guessed = g })))
 looked k g x e = ap (told k g) e ∙ stored-so k g x
 

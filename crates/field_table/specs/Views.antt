@@ -53,7 +53,7 @@ pub record Bits : Type 0 where
   pub guessed : Bool
 
 abbrev pub inBits : Answer T.Looked → Answer Bits
-inBits a = a then λ l. Gives (record { kind = l .kind; date = K.stored (l .date); guessed = l .guessed })
+inBits a = a then λ l. Gives (record { kind = l .kind; date = T.lookedDate l; guessed = l .guessed })
 
 abbrev pub lookedAs : Looked → Answer Bits
 lookedAs (L.Declared k d) = Gives (record { kind = kindOf k; date = bitsOf d; guessed = false })

@@ -59,7 +59,8 @@ pub enum Entry {
     NoEntry,
 }
 
-// The date of a number and the kind that was used: the field's own, or the game's, whose guess it was. Or why there is no date.
+// The date of a number and the kind that was used: the field's own, or the game's, whose guess it was and by which the date is marked.
+// Or why there is no date.
 pub enum Looked {
     Declared { kind: Kind, date: Packed },
     Guessed { kind: Kind, date: Packed },

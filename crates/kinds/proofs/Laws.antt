@@ -17,7 +17,7 @@ use Rattle.rules.specs.Kinds.{Kind, Fields, Stored, daysIn, hourFits, fieldSetH
 use Rattle.rules.specs.Days.{Order, Same, byZ, byN, order}
 use Rattle.rules.proofs.OnKinds.KindLaws.{Fit, fit}
 use Rattle.rules.proofs.OnDays.OrderLaws.{day-small, hour-small}
-use Rattle.rules.proofs.OnKinds.PackLaws.{word-alone, handed-by}
+use Rattle.rules.proofs.OnKinds.PackLaws.{word-alone, handed-by, handed-tells}
 use Rattle.kinds.specs.declared.Made.{Made}
 use Rattle.kinds.specs.Views.{madeAs}
 
@@ -64,6 +64,12 @@ module _ (k : Kind) (d : Stored) where
     handed-not e =
         let fits : ofKind k f ≡ false = rw (e, and-false (fits16 (f .year))) in
         rw (allowed, sym (ap (ofKind k) is) ∙ fits)
+
+  -- and its fields are small, so that the word of them fits
+  pub handed-small : (f : Fields) → handed k d ≡ Gives f → (f .month < 16) × (f .day < 32) × (f .hour < 32)
+  handed-small f e =
+      let p = handed-tells k d f e .of-kind in
+      (omega (arith, fit k f p .month-high), day-small k f p, hour-small k f p)
 
 -- ---- two dates handed in, in order
 

@@ -1,15 +1,17 @@
 // What the six kinds share: the kind, a date's fields, its packed word, and the one maker and the one opener over the kind.
 ghost use mathlib.Core.Path.{_≡_};
-ghost use Prim.Native.Nat.{ℕ, _≤_};
-ghost use Rattle.rules.specs.Kinds.{daysIn, hourFits, fitsKind, made, fieldSetHour, fromFields, settledHour, settled, unpacked, handed, ofDates, store};
+ghost use Prim.Native.Nat.{ℕ, _≤_, _<_};
+ghost use Rattle.rules.specs.Kinds.{daysIn, hourFits, fitsKind, made, fieldSetHour, fromFields, settledHour, settled, unpacked, handed, ofDates, storeWith, store, withoutMark};
 ghost use Rattle.rules.specs.Refusals.{Gives, given, notOfKind};
 ghost use Rattle.rules.specs.Days.{order};
 ghost use Rattle.kinds.specs.HourBits.{hourBits};
 ghost use Rattle.kinds.specs.Views.{kindOf, bitsOf, madeAs, openedAs, orderedAs};
+pub use word::GUESSED_MARK;
 pub use word::NO_MARK;
 pub use word::day_of;
 pub use word::fields_of;
 pub use word::hour_of;
+pub use word::is_guessed;
 pub use word::mark_of;
 pub use word::month_of;
 pub use word::pack;
@@ -34,7 +36,7 @@ pub struct ExpandedRawDate {
     pub hour: u8,
 }
 
-// A date as it is stored: the year, and month × 4096 + day × 128 + hour × 4 beside it. Any bits can be handed in.
+// A date as it is stored: the year, and month × 4096 + day × 128 + hour × 4 beside it, with its mark added. Any bits can be handed in.
 pub struct Packed {
     pub year: i16,
     pub word: u16,
@@ -209,10 +211,11 @@ pub fn settle(kind: Kind, year: i16, month: u8, day: u8, hour: u8) -> Made
     make(kind, year, month, day, settled_hour(kind, hour))
 }
 
-// The same where the month and the day are of the kind: the hour alone is tested.
-pub fn settle_day(kind: Kind, year: i16, month: u8, day: u8, hour: u8) -> Made
+// The same where the month and the day are of the kind, with this mark: the hour alone is tested.
+pub fn settle_day(kind: Kind, mark: u16, year: i16, month: u8, day: u8, hour: u8) -> Made
+    requires { ⌜ mark < 4 ⌝ }
     requires { ⌜ (1 ≤ month) × (month ≤ 12) × (1 ≤ day) × (day ≤ daysIn (kindOf kind) month) ⌝ }
-    ensures { λ r. ⌜ ((n : ℕ) → madeAs n r ≡ store (settled (kindOf kind) n (record { year = year; month = month; day = day; hour = hour }))) ⌝ }
+    ensures { λ r. ⌜ ((n : ℕ) → madeAs n r ≡ storeWith mark (settled (kindOf kind) n (record { year = year; month = month; day = day; hour = hour }))) ⌝ }
 {
     let settled = settled_hour(kind, hour);
     if hour_fits(kind, settled) {
@@ -222,7 +225,7 @@ pub fn settle_day(kind: Kind, year: i16, month: u8, day: u8, hour: u8) -> Made
             day,
             hour: settled,
         };
-        Made::Date(pack(NO_MARK, fields))
+        Made::Date(pack(mark, fields))
     } else {
         Made::None
     }
@@ -249,6 +252,17 @@ pub fn is_of_kind(kind: Kind, date: Packed) -> bool
     match opened {
         Opened::Fields(_) => true,
         Opened::NotOfKind => false,
+    }
+}
+
+// A date handed in, handed out again without its mark.
+pub fn without_mark(kind: Kind, date: Packed) -> Made
+    ensures { λ r. ⌜ madeAs notOfKind r ≡ withoutMark (kindOf kind) (bitsOf date) ⌝ }
+{
+    let opened = unpack(kind, date);
+    match opened {
+        Opened::Fields(fields) => Made::Date(pack(NO_MARK, fields)),
+        Opened::NotOfKind => Made::None,
     }
 }
 

@@ -1,13 +1,15 @@
 // The word beside a date's year: month × 4096 + day × 128 + hour × 4, with a mark in its two low bits. It is packed and opened here alone.
 ghost use mathlib.Core.Path.{_≡_};
 ghost use Prim.Native.Nat.{_<_};
-ghost use Rattle.rules.specs.Kinds.{markOf, markAllowed, storedWith, unpacked};
+ghost use Rattle.rules.specs.Kinds.{markOf, markAllowed, storedWith, unpacked, isGuessed};
 ghost use Rattle.kinds.specs.Views.{fieldsOf, bitsOf};
 use crate::ExpandedRawDate;
 use crate::Packed;
 
-// A date that is made has no mark.
+// Guess readers set 1, all others 0; 2 and 3 are not allowed.
 pub const NO_MARK: u16 = 0;
+
+pub const GUESSED_MARK: u16 = 1;
 
 // A date of these fields as it is stored, with this mark.
 pub fn pack(mark: u16, fields: ExpandedRawDate) -> Packed
@@ -65,5 +67,12 @@ pub fn mark_of(date: Packed) -> u16
 pub(crate) fn mark_allowed(mark: u16) -> bool
     ensures { λ r. ⌜ r ≡ markAllowed mark ⌝ }
 {
-    mark == NO_MARK
+    mark <= GUESSED_MARK
+}
+
+// Whether a stored date was guessed.
+pub fn is_guessed(date: Packed) -> bool
+    ensures { λ r. ⌜ r ≡ isGuessed (bitsOf date) ⌝ }
+{
+    mark_of(date) == GUESSED_MARK
 }

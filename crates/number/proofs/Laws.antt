@@ -12,7 +12,7 @@ use Rattle.sign.specs.Halves.{up, dn, Halved}
 use Rattle.sign.proofs.Laws.{same, ints, one-side}
 use Rattle.rules.specs.Refusals.{Answer, Gives, Refused, _then_, demand, given, notNumber, notOfKind}
 use Rattle.rules.specs.Calendar.{lengths, monthLength, walk, monthDay, dayOfYear}
-use Rattle.rules.specs.Kinds.{Kind, kR, kD, kH, kU, kE, kV, Fields, Stored, daysIn, store, handed, ofDate}
+use Rattle.rules.specs.Kinds.{Kind, kR, kD, kH, kU, kE, kV, Fields, Stored, daysIn, storeGuess, store, handed, ofDate}
 use Rattle.rules.specs.Numbers.{onDay, hourOf, dayOf, yearOf, hasFields, numberFields, readsNumbers, decoded, readNumber, guesses, guessed, guessNumber, straightAt, straight, writesNumbers, writtenHour, writeNumber}
 use Rattle.rules.proofs.OnRefusals.Determined.{backBy}
 use Rattle.rules.proofs.OnCalendar.CalendarLaws.{IsDay, is-day, length-small}
@@ -141,5 +141,5 @@ pub read-answers : (k : Kind) {s : ℤ} {read r : Read} → SFits w32 s →
 read-answers k fits is same = ap readAs (sym same) ∙ (rw (toZ-ofZ fits) at is)
 
 pub guess-answers : (k : Kind) {s : ℤ} {guess r : Guess} → SFits w32 s →
-    guessedAs guess ≡ store (guessNumber k (toZ w32 (ofZ w32 s))) → guess ≡ r → guessedAs r ≡ store (guessNumber k s)
+    guessedAs guess ≡ storeGuess (guessNumber k (toZ w32 (ofZ w32 s))) → guess ≡ r → guessedAs r ≡ storeGuess (guessNumber k s)
 guess-answers k fits is same = ap guessedAs (sym same) ∙ (rw (toZ-ofZ fits) at is)

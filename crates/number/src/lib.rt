@@ -3,13 +3,15 @@ ghost use mathlib.Core.Path.{_≡_};
 ghost use mathlib.Core.Bool.{true};
 ghost use Prim.Native.Nat.{ℕ, _≤_, _<_};
 ghost use Rattle.rules.specs.Refusals.{notNumber};
-ghost use Rattle.rules.specs.Kinds.{daysIn, store, ofDate};
+ghost use Rattle.rules.specs.Kinds.{daysIn, storeWith, storeGuess, store, ofDate};
 ghost use Rattle.rules.specs.Numbers.{numberFields, readsNumbers, decodedHour, decoded, readNumber, guesses, guessNumber, writesNumbers, writtenHour, writeNumber};
 ghost use Rattle.kinds.specs.Views.{kindOf, fieldsOf, madeAs, bitsOf};
 ghost use Rattle.number.specs.Views.{numberedAs, hourIn, readAs, guessedAs, writtenAs};
 use kinds::ExpandedRawDate;
+use kinds::GUESSED_MARK;
 use kinds::Kind;
 use kinds::Made;
+use kinds::NO_MARK;
 use kinds::Opened;
 use kinds::Packed;
 
@@ -95,13 +97,13 @@ fn decoded_hour(kind: Kind, hour: u8) -> u8
     }
 }
 
-// The date of a number's fields, or none of the kind: their month and day are the calendar's.
-fn decode(kind: Kind, year: i16, month: u8, day: u8, hour: u8) -> Made
-    requires { ⌜ hour < 24 ⌝ }
+// The date of a number's fields, with this mark, or none of the kind: their month and day are the calendar's.
+fn decode(kind: Kind, mark: u16, year: i16, month: u8, day: u8, hour: u8) -> Made
+    requires { ⌜ (mark < 4) × (hour < 24) ⌝ }
     requires { ⌜ (1 ≤ month) × (month ≤ 12) × (1 ≤ day) × (day ≤ daysIn (kindOf kind) month) ⌝ }
-    ensures { λ r. ⌜ madeAs notNumber r ≡ store (decoded (kindOf kind) (record { year = year; month = month; day = day; hour = hour })) ⌝ }
+    ensures { λ r. ⌜ madeAs notNumber r ≡ storeWith mark (decoded (kindOf kind) (record { year = year; month = month; day = day; hour = hour })) ⌝ }
 {
-    kinds::settle_day(kind, year, month, day, decoded_hour(kind, hour))
+    kinds::settle_day(kind, mark, year, month, day, decoded_hour(kind, hour))
 }
 
 // U reads no number outside text.
@@ -140,7 +142,7 @@ fn read_as(kind: Kind, s: i32) -> Read
     let Numbered::Fields(f) = number_fields(s) else {
         return Read::NotNumber;
     };
-    let made = decode(kind, f.year, f.month, f.day, f.hour);
+    let made = decode(kind, NO_MARK, f.year, f.month, f.day, f.hour);
     match made {
         Made::Date(date) => Read::Date(date),
         Made::None => Read::NotNumber,
@@ -166,13 +168,13 @@ pub fn from_binary(kind: Kind, s: i32) -> Read
 // The guess by a number's fields.
 fn guess_by_fields(kind: Kind, s: i32) -> Guess
     requires { ⌜ guesses (kindOf kind) ≡ true ⌝ }
-    ensures { λ r. ⌜ guessedAs r ≡ store (guessNumber (kindOf kind) s) ⌝ }
+    ensures { λ r. ⌜ guessedAs r ≡ storeGuess (guessNumber (kindOf kind) s) ⌝ }
 {
     let Numbered::Fields(f) = number_fields(s) else {
         return Guess::NotNumber;
     };
     if narrow::passes_guess(kind, f.year, f.month, f.day, f.hour) {
-        let made = decode(kind, f.year, f.month, f.day, f.hour);
+        let made = decode(kind, GUESSED_MARK, f.year, f.month, f.day, f.hour);
         match made {
             Made::Date(date) => Guess::Date(date),
             Made::None => Guess::NotNumber,
@@ -185,7 +187,7 @@ fn guess_by_fields(kind: Kind, s: i32) -> Guess
 // The guess, over the kind.
 fn guess_as(kind: Kind, s: i32) -> Guess
     requires { ⌜ guesses (kindOf kind) ≡ true ⌝ }
-    ensures { λ r. ⌜ guessedAs r ≡ store (guessNumber (kindOf kind) s) ⌝ }
+    ensures { λ r. ⌜ guessedAs r ≡ storeGuess (guessNumber (kindOf kind) s) ⌝ }
 {
     if narrow::may_pass(kind, s) {
         guess_by_fields(kind, s)
@@ -194,10 +196,11 @@ fn guess_as(kind: Kind, s: i32) -> Guess
     }
 }
 
-// The narrow guess: for a number that no one declared. R and U have none. Kind by kind, as the full decoder.
+// The narrow guess: for a number that no one declared. R and U have none. Kind by kind, as the full decoder. Its dates are marked as
+// guessed.
 pub fn from_binary_heuristic(kind: Kind, s: i32) -> Guess
     requires { ⌜ guesses (kindOf kind) ≡ true ⌝ }
-    ensures { λ r. ⌜ guessedAs r ≡ store (guessNumber (kindOf kind) s) ⌝ }
+    ensures { λ r. ⌜ guessedAs r ≡ storeGuess (guessNumber (kindOf kind) s) ⌝ }
 {
     if narrow::is_early(s) {
         return Guess::NotNumber;

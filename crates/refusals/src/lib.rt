@@ -47,3 +47,6 @@ pub const TABLE_FULL: u8 = 15;
 
 // A field table: no such field to remove.
 pub const NOT_THERE: u8 = 16;
+
+// A book of version 1: a guessed date appended, which it does not take.
+pub const GUESSED_DATE: u8 = 20;

@@ -46,6 +46,12 @@ restAt R.Unreadable = 0
 
 -- ---- its number, and its date
 
+-- #106: "Guess readers set 1, all others 0"
+abbrev pub markBy : L.Way → ℕ
+markBy L.byText = K.noMark
+markBy L.byNumber = K.noMark
+markBy L.byGuess = K.guessedMark
+
 abbrev pub numeralAs : Numeral → Answer ℤ
 numeralAs (N.Value n) = Gives n
 numeralAs N.None = Refused notText

@@ -3,11 +3,11 @@ ghost use mathlib.Core.Path.{_≡_};
 ghost use mathlib.Core.Bool.{true};
 ghost use Prim.Native.Nat.{_≤_, _<_};
 ghost use lib.ListN.{length, drop};
-ghost use Rattle.rules.specs.Kinds.{store};
+ghost use Rattle.rules.specs.Kinds.{storeWith, storeGuess, store};
 ghost use Rattle.rules.specs.Numbers.{readsNumbers, guesses};
 ghost use Rattle.rules.specs.Listing.{byText, byNumber, byGuess, hasWay, dateBy};
 ghost use Rattle.kinds.specs.Views.{kindOf};
-ghost use Rattle.request.specs.Views.{wayOf, askedAs, refusalIn};
+ghost use Rattle.request.specs.Views.{wayOf, markBy, askedAs, refusalIn};
 use by_kind::Parsed;
 use kinds::Kind;
 use kinds::Packed;
@@ -67,7 +67,7 @@ fn date_by_number(kind: Kind, s: &[u8]) -> Asked
 
 fn date_by_guess(kind: Kind, s: &[u8]) -> Asked
     requires { ⌜ guesses (kindOf kind) ≡ true ⌝ }
-    ensures { λ r. ⌜ askedAs r ≡ store (dateBy byGuess (kindOf kind) (drop 4 (now (s .entry)))) ⌝ }
+    ensures { λ r. ⌜ askedAs r ≡ storeGuess (dateBy byGuess (kindOf kind) (drop 4 (now (s .entry)))) ⌝ }
 {
     let Numeral::Value(n) = number(s, 4) else {
         return Asked::Refused(refusals::NOT_TEXT);
@@ -83,7 +83,7 @@ fn date_by_guess(kind: Kind, s: &[u8]) -> Asked
 pub fn date_by(kind: Kind, way: Way, s: &[u8]) -> Asked
     requires { ⌜ hasWay (kindOf kind) (wayOf way) ≡ true ⌝ }
     requires { ⌜ 4 ≤ length (now s) ⌝ }
-    ensures { λ r. ⌜ askedAs r ≡ store (dateBy (wayOf way) (kindOf kind) (drop 4 (now (s .entry)))) ⌝ }
+    ensures { λ r. ⌜ askedAs r ≡ storeWith (markBy (wayOf way)) (dateBy (wayOf way) (kindOf kind) (drop 4 (now (s .entry)))) ⌝ }
     ensures { λ r. ⌜ refusalIn r < 10 ⌝ }
 {
     match way {

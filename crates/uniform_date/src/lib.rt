@@ -3,7 +3,7 @@ ghost use mathlib.Core.Path.{_≡_};
 ghost use Prim.Native.Nat.{_≤_};
 ghost use lib.ListN.{length};
 ghost use Rattle.rules.specs.Refusals.{Gives};
-ghost use Rattle.rules.specs.Kinds.{kU, unpacked, least, greatest, fromFields, stored, store, ofDate, ofDates};
+ghost use Rattle.rules.specs.Kinds.{kU, unpacked, least, greatest, fromFields, stored, store, ofDate, ofDates, isGuessed, withoutMark};
 ghost use Rattle.rules.specs.Days.{order};
 ghost use Rattle.rules.specs.Text.{readText};
 ghost use Rattle.rules.specs.Spelling.{dotted, iso, exchange, putAnswer, putBuffer};
@@ -94,6 +94,23 @@ impl UniformDate {
         ensures { λ r. ⌜ r ≡ unpacked (bits self) .hour ⌝ }
     {
         kinds::hour_of(self.raw)
+    }
+    // Whether the date was guessed, by its mark as it is stored.
+    pub fn is_guessed(self) -> bool
+        ensures { λ r. ⌜ r ≡ isGuessed (bits self) ⌝ }
+    {
+        kinds::is_guessed(self.raw)
+    }
+
+    // The same date without its mark.
+    pub fn without_mark(self) -> Made
+        ensures { λ r. ⌜ madeAs r ≡ withoutMark kU (bits self) ⌝ }
+    {
+        let made = kinds::without_mark(Kind::Uniform, self.raw);
+        match made {
+            kinds::Made::Date(raw) => Made::Date(UniformDate { raw }),
+            kinds::Made::None => Made::NotOfKind,
+        }
     }
 
     pub fn parse(s: &[u8]) -> Parsed

@@ -3,7 +3,7 @@ ghost use mathlib.Core.Path.{_≡_};
 ghost use Prim.Native.Nat.{_≤_};
 ghost use lib.ListN.{length};
 ghost use Rattle.rules.specs.Refusals.{Gives};
-ghost use Rattle.rules.specs.Kinds.{kV, unpacked, least, greatest, fromFields, stored, store, ofDate, ofDates};
+ghost use Rattle.rules.specs.Kinds.{kV, unpacked, least, greatest, fromFields, stored, storeGuess, store, storeLike, ofDate, ofDates, isGuessed, withoutMark};
 ghost use Rattle.rules.specs.Numbers.{readNumber, guessNumber};
 ghost use Rattle.rules.specs.Days.{addDays, difference, order};
 ghost use Rattle.rules.specs.Text.{readText};
@@ -118,6 +118,23 @@ impl Vic3Date {
     {
         kinds::hour_of(self.raw)
     }
+    // Whether the date was guessed, by its mark as it is stored.
+    pub fn is_guessed(self) -> bool
+        ensures { λ r. ⌜ r ≡ isGuessed (bits self) ⌝ }
+    {
+        kinds::is_guessed(self.raw)
+    }
+
+    // The same date without its mark.
+    pub fn without_mark(self) -> Made
+        ensures { λ r. ⌜ madeAs r ≡ withoutMark kV (bits self) ⌝ }
+    {
+        let made = kinds::without_mark(Kind::Vic3, self.raw);
+        match made {
+            kinds::Made::Date(raw) => Made::Date(Vic3Date { raw }),
+            kinds::Made::None => Made::NotOfKind,
+        }
+    }
 
     pub fn parse(s: &[u8]) -> Parsed
         ensures { λ r. ⌜ parsedAs r ≡ store (readText kV (now (s .entry))) ⌝ }
@@ -160,9 +177,9 @@ impl Vic3Date {
         }
     }
 
-    // For a number that no one declared.
+    // For a number that no one declared: its date is marked as guessed.
     pub fn from_binary_heuristic(s: i32) -> Guessed
-        ensures { λ r. ⌜ guessedAs r ≡ store (guessNumber kV s) ⌝ }
+        ensures { λ r. ⌜ guessedAs r ≡ storeGuess (guessNumber kV s) ⌝ }
     {
         let guess = number::from_binary_heuristic(Kind::Vic3, s);
         match guess {
@@ -171,9 +188,9 @@ impl Vic3Date {
         }
     }
 
-    // A new date; the old one stays.
+    // A new date, with the mark of the old one, which stays.
     pub fn add_days(self, days: i32) -> Summed
-        ensures { λ r. ⌜ summedAs r ≡ store (ofDate kV (bits self) (λ f. addDays kV f days)) ⌝ }
+        ensures { λ r. ⌜ summedAs r ≡ storeLike (bits self) (ofDate kV (bits self) (λ f. addDays kV f days)) ⌝ }
     {
         let sum = day_count::add_days(Kind::Vic3, self.raw, days);
         match sum {

@@ -1,5 +1,6 @@
 -- `day_count::add_days` meets its contract: a date of the kind, where the kind counts days, is moved. Assumes nothing.
 use mathlib.Core.Path.{_≡_, sym, ap, _∙_}
+use native.Mathlib.Omega.{arith}
 use mir.Facts.{toZ-ofZ}
 use Rattle.rules.specs.Refusals.{Gives}
 use Rattle.rules.specs.Kinds.{handed}
@@ -21,16 +22,16 @@ returns c = rw (sym (c .before .before .unpack .ensures) ∙ ap openedAs (c .enu
 
 moved-requires : tie.Need-moved-requires
 moved-requires c κs =
-    let k = c .before in
+    let k = c .before .before in
     let f = found k in
-    (on-calendar _ _ _ f (sym (k .before .before .before .before .before .counts-days .ensures) ∙ k .before .before .before .before .if1 .taken), rw (c .summed-hour .ensures) (hour-low _ _ _ f))
+    (on-calendar _ _ _ f (sym (k .before .before .before .before .before .counts-days .ensures) ∙ k .before .before .before .before .if1 .taken), rw (c .before .summed-hour .ensures) (hour-low _ _ _ f), omega (arith, c .mark-of .ensures))
 
 returns-2 : tie.Need-returns-2
 unfolding addDays
 returns-2 c =
-    let k = c .before .before in
+    let k = c .before .before .before in
     rw (found k, sym (k .before .before .before .before .before .counts-days .ensures) ∙ k .before .before .before .before .if1 .taken)
-    (rw (toZ-ofZ (k .before .before .before .before .before .before .fits .days), c .before .summed-hour .ensures) at (c .moved .ensures))
+    (rw (toZ-ofZ (k .before .before .before .before .before .before .fits .days), c .before .before .summed-hour .ensures, c .before .mark-of .ensures) at (c .moved .ensures))
 
 returns-3 : tie.Need-returns-3
 unfolding addDays
@@ -45,6 +46,7 @@ add-days-spec =
     (λ c. search needs)
     (λ c. search needs)
     returns
+    (λ c κs. search needs)
     (λ c κs. search needs)
     moved-requires
     returns-2

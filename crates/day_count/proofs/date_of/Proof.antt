@@ -5,7 +5,7 @@ use Prim.Native.Nat.{_+_, _%_, _≤_}
 use mir.Syntax.{w16}
 use Rattle.sign.proofs.Bits.{held}
 use Rattle.rules.specs.Calendar.{monthDay}
-use Rattle.rules.specs.Kinds.{stored}
+use Rattle.rules.specs.Kinds.{storedWith}
 use Rattle.rules.proofs.OnCalendar.CalendarLaws.{is-day, length-small}
 use Rattle.day_count.proofs.Laws.{date-is}
 use borrow.Author.Needs.{needs}
@@ -22,14 +22,14 @@ small c =
     omega arith
 
 pack-requires : tie.Need-pack-requires
-pack-requires c κs = (omega arith, omega (arith, small c), omega (arith, small c), c .before .before .pre .3)
+pack-requires c κs = (c .before .before .pre .4, omega (arith, small c), omega (arith, small c), c .before .before .pre .3)
 
 returns : tie.Need-returns
 returns c =
     let t = c .before in
     let y = held w16 (t .before .int16 .ok) ∙ t .before .int16 .ensures in
     c .pack .ensures
-    ∙ ap stored (date-is _ _ (t .before .before .pre .0) _ y (t .month-day-from-julian .ensures .0) (t .month-day-from-julian .ensures .1))
+    ∙ ap (storedWith (t .before .before .args .mark)) (date-is _ _ (t .before .before .pre .0) _ y (t .month-day-from-julian .ensures .0) (t .month-day-from-julian .ensures .1))
 
 pub date-of-spec : {M : Type 1} → statement M
 date-of-spec =

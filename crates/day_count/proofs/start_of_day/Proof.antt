@@ -4,11 +4,11 @@ use native.Mathlib.Omega.{arith}
 use mir.Syntax.{w16}
 use Rattle.sign.proofs.Bits.{held}
 use Rattle.rules.specs.Refusals.{Gives}
-use Rattle.rules.specs.Kinds.{stored, handed}
+use Rattle.rules.specs.Kinds.{handed}
 use Rattle.rules.specs.Days.{startOfDay}
 use Rattle.rules.proofs.OnKinds.PackLaws.{lacking}
 use Rattle.kinds.specs.Views.{kindOf, fieldsOf, bitsOf, openedAs}
-use Rattle.day_count.proofs.Laws.{small-fields}
+use Rattle.kinds.proofs.Laws.{handed-small}
 use borrow.Author.Needs.{needs}
 use Rattle.day_count.proofs.start_of_day.Statement.{statement}
 use Rattle.day_count.proofs.start_of_day.Tie as tie
@@ -22,14 +22,14 @@ returns : tie.Need-returns
 returns c = rw (sym (c .before .before .unpack .ensures) ∙ ap openedAs (c .enum-told .given .1))
 
 pack-requires : tie.Need-pack-requires
-pack-requires c κs = let s = small-fields _ _ _ (found (c .before)) in (omega arith, s .0, s .1, omega arith)
+pack-requires c κs = let s = handed-small _ _ _ (found (c .before .before)) in (omega (arith, c .mark-of .ensures), s .0, s .1, omega arith)
 
 returns-2 : tie.Need-returns-2
 unfolding startOfDay
 returns-2 c =
-    let k = c .before .before in
+    let k = c .before .before .before in
     rw (found k, sym (k .before .before .before .before .before .has-start .ensures) ∙ k .before .before .before .before .if1 .taken)
-    (ap Gives (rw (held w16 (c .before .struct-told .given .0 .1)) at (c .pack .ensures)))
+    (ap Gives (rw (held w16 (c .before .before .struct-told .given .0 .1), c .before .mark-of .ensures) at (c .pack .ensures)))
 
 returns-3 : tie.Need-returns-3
 unfolding startOfDay
@@ -44,6 +44,7 @@ start-of-day-spec =
     (λ c. search needs)
     (λ c. search needs)
     returns
+    (λ c κs. search needs)
     pack-requires
     returns-2
     returns-3)

@@ -13,10 +13,10 @@ use Rattle.kinds.proofs.settle_day.Tie as tie
 
 fits : (c : tie.Then1) → let a = c .before .before .before .args in
     fitsKind (kindOf (a .kind)) (a .month) (a .day) (c .before .before .settled-hour .result) ≡ true
-fits c = fits-day _ _ _ _ (c .before .before .before .pre) (sym (c .before .hour-fits .ensures) ∙ c .if1 .taken)
+fits c = fits-day _ _ _ _ (c .before .before .before .pre .1) (sym (c .before .hour-fits .ensures) ∙ c .if1 .taken)
 
 pack-requires : tie.Need-pack-requires
-pack-requires c κs = let s = small _ _ _ _ (fits c) in (omega arith, omega (arith, s), s .1, s .2)
+pack-requires c κs = let s = small _ _ _ _ (fits c) in (c .before .before .before .pre .0, omega (arith, s), s .1, s .2)
 
 returns : tie.Need-returns
 unfolding settled
@@ -33,7 +33,7 @@ unfolding settled
 returns-2 c =
     λ n.
     let a = c .before .before .before .args in
-    let f = fits-day _ _ _ _ (c .before .before .before .pre) (sym (c .before .hour-fits .ensures) ∙ c .if1 .left) in
+    let f = fits-day _ _ _ _ (c .before .before .before .pre .1) (sym (c .before .hour-fits .ensures) ∙ c .if1 .left) in
     rw (← (c .before .before .settled-hour .ensures), made-is (kindOf (a .kind)) n (record { year = a .year; month = a .month; day = a .day; hour = c .before .before .settled-hour .result }) (c .before .before .before .fits .year) f)
 
 pub settle-day-spec : {M : Type 1} → statement M

@@ -33,7 +33,7 @@ decode-requires c κs =
     let n = f .before .before in
     let a = n .before in
     let k = kindOf (a .args .kind) in
-    (omega (arith, ap hourIn (f .f .given .1), n .number-fields .ensures .1), day-read k notNumber (a .args .s) _ (guess-reads k (a .pre)) (sym (told n) ∙ ap (numberedAs notNumber) (f .f .given .1)))
+    ((omega arith, omega (arith, ap hourIn (f .f .given .1), n .number-fields .ensures .1)), day-read k notNumber (a .args .s) _ (guess-reads k (a .pre)) (sym (told n) ∙ ap (numberedAs notNumber) (f .f .given .1)))
 
 returns-2 : tie.Need-returns-2
 returns-2 c =

@@ -29,7 +29,7 @@ decode-requires c κs =
     let n = f .before .before in
     let a = n .before in
     let e = f .f .given .1 in
-    (omega (arith, ap hourIn e, n .number-fields .ensures .1), day-read (kindOf (a .args .kind)) notNumber (a .args .s) _ (a .pre) (sym (told n) ∙ ap (numberedAs notNumber) e))
+    ((omega arith, omega (arith, ap hourIn e, n .number-fields .ensures .1)), day-read (kindOf (a .args .kind)) notNumber (a .args .s) _ (a .pre) (sym (told n) ∙ ap (numberedAs notNumber) e))
 
 returns-2 : tie.Need-returns-2
 returns-2 c =

@@ -4,13 +4,14 @@ use Prim.Native.Nat.{_<_}
 use native.Mathlib.Omega.{arith}
 use mir.Syntax.{w16}
 use Rattle.sign.proofs.Bits.{held}
-use Rattle.rules.specs.Book.{twosComplement}
+use Rattle.rules.specs.Book.{twosComplement, entryBytes}
 use Rattle.rules.proofs.OnWords.ByteLaws.{two-bytes-of}
 use borrow.Author.Needs.{needs}
 use Rattle.book.proofs.slots.bytes_of.Statement.{statement}
 use Rattle.book.proofs.slots.bytes_of.Tie as tie
 
 returns : tie.Need-returns
+unfolding entryBytes
 returns c =
     let d = c .before .before .before .args .date in
     let year : c .twos-complement .result ≡ twosComplement (d .year) = c .twos-complement .ensures ∙ ap twosComplement (held w16 {z = d .year} (c .before .struct-told .given .0 .1)) in

@@ -1,9 +1,15 @@
 /* Pennyquill: the dates of strategy-game saves, for C and for whatever calls C.
  *
  * Kinds, by their codes:      1 R raw   2 D plain   3 H hourly   4 U uniform   5 E EU5   6 V Victoria 3
- * A date is one number:       (uint32_t)(uint16_t)year << 16 | month << 12 | day << 7 | hour << 2
+ * A date is one number:       (uint32_t)(uint16_t)year << 16 | month << 12 | day << 7 | hour << 2 | mark
  * Any numbers can be handed in. A kind outside 1 to 6, a kind that lacks the operation, fields or a date that are not of
- * the kind: each is refusal 4, and 14 in the calls of tables.
+ * the kind, a mark that is not allowed: each is refusal 4, and 14 in the calls of tables.
+ *
+ * A date's mark, in bits 0 and 1, tells whether it was guessed: 0 declared, 1 guessed; 2 and 3 are not allowed. A date
+ * guessed by pq_guess_number, or by a lookup of a field that is not declared, has the mark 1; one that is read or made in
+ * any other way has 0; a sum and the start of a day keep the mark of the date that they start from. Nothing else sees it:
+ * two dates that differ in the mark alone are the same date, with the same texts, number and differences. So compare two
+ * dates by pq_order, and never by ==.
  *
  * Every answer has a refusal, 0 where there is none:
  *    1 text over 64 bytes            6 sum outside every date         12 book or new table: no room
@@ -12,6 +18,7 @@
  *      or guess refused             10 book or table: its version        or not allowed
  *    4 not of that kind             11 book: a bad record; value is   15 table: full, or no room for a new entry
  *    5 sum outside 32 bits             the first one's place          16 table: no such field to remove
+ *                                                                     20 book of version 1: a guessed date appended
  * At 11 value is the place; at every other refusal all other members are 0. A refusal leaves every byte as it was.
  *
  * A text, a buffer, a book or a table is a pointer and the number of bytes there. No byte beyond them is touched; where
@@ -48,13 +55,13 @@ typedef struct {
 typedef struct {
     uint32_t refusal;
     uint32_t kind;    /* the declared one, or the game's where the field is not declared */
-    uint32_t value;   /* the date */
-    uint32_t guessed; /* 0: declared, decoded in full; 1: not declared, guessed */
+    uint32_t value;   /* the date, with its mark */
+    uint32_t guessed; /* 0: declared, decoded in full; 1: not declared, guessed. It is the date's mark too */
 } pq_lookup;
 
 /* A date from a dotted text, or for D, H and U from a number's text; from its ISO text; from a number that is declared as
-   a date; from any number, by the narrow guess; from its fields, of which D, U and E ignore the hour. The value is the
-   date.
+   a date; from any number, by the narrow guess, which alone sets the mark 1; from its fields, of which D, U and E ignore
+   the hour. The value is the date.
 
    A text over 64 bytes is 1, whatever it says; any other that is not of the kind is 2. A dotted text's year and a number's
    text may have zeros before them, as many as fit, and the true value decides: 18446744073709553060.1.1, of the year
@@ -71,7 +78,11 @@ pq_answer pq_read_number(uint32_t kind, int32_t number);
 pq_answer pq_guess_number(uint32_t kind, int32_t number);
 pq_answer pq_from_fields(uint32_t kind, int32_t year, uint32_t month, uint32_t day, uint32_t hour);
 
-/* The date so many days later (D, E, V), and E's date at the start of its day. The value is the date. */
+/* The same date with the mark 0, of every kind. The value is the date. */
+pq_answer pq_without_mark(uint32_t kind, uint32_t date);
+
+/* The date so many days later (D, E, V), and E's date at the start of its day. The value is the date, with the mark of
+   the date that it starts from. */
 pq_answer pq_add_days(uint32_t kind, uint32_t date, int32_t days);
 pq_answer pq_start_of_day(uint32_t kind, uint32_t date);
 
@@ -91,7 +102,11 @@ pq_answer pq_write_iso(uint32_t kind, uint32_t date, uint8_t *out, size_t room);
 pq_answer pq_write_iso_date(uint32_t kind, uint32_t date, uint8_t *out, size_t room);
 pq_answer pq_write_exchange(uint32_t kind, uint32_t date, uint8_t *out, size_t room);
 
-/* A book at the front of a buffer. The value is 0; the number of records; the new record's place. */
+/* A book at the front of a buffer. The value is 0; the number of records; the new record's place.
+
+   A book of version 1 takes no mark. A record with any mark in it is 11. A guessed date appended is 20, after 4, 9, 10, 11
+   and 12, so that 20 says that any other date of the kind would have found room; pq_without_mark gives that date without
+   its mark. */
 pq_answer pq_book_new(uint8_t *book, size_t len);
 pq_answer pq_book_check(const uint8_t *book, size_t len);
 pq_answer pq_book_append(uint8_t *book, size_t len, uint32_t kind, uint32_t date);
@@ -119,8 +134,8 @@ pq_answer pq_table_check(const uint8_t *table, size_t len);
 pq_answer pq_table_declare(uint8_t *table, size_t len, uint32_t field, uint32_t kind);
 pq_answer pq_table_remove(uint8_t *table, size_t len, uint32_t field);
 
-/* The date of a number that stands in a field, and whether it was guessed. A game kind that is none is 14 even where the
-   field is declared. */
+/* The date of a number that stands in a field, and whether it was guessed, which its mark tells too. A game kind that is
+   none is 14 even where the field is declared. */
 pq_lookup pq_table_lookup(const uint8_t *table, size_t len, uint32_t field, uint32_t game_kind, int32_t number);
 
 /* The entry at a place, from 0. */

@@ -1,6 +1,6 @@
 //! A date's bits: what the boundary answers about them, in Rust's words.
 //!
-//! The bits are the year's sixteen above the packed word: month × 4096 + day × 128 + hour × 4.
+//! The bits are the year's sixteen above the packed word: month × 4096 + day × 128 + hour × 4, and the mark.
 
 use crate::ffi::{self, Answer, Number};
 use crate::refusal::Refusal;
@@ -60,6 +60,18 @@ pub(crate) fn checked(kind: u32, bits: u32) -> Result<u32, Refusal> {
         refusal,
         value: if refusal == 0 { bits } else { 0 },
     })
+}
+
+/// The mark of a date that was guessed; every other has 0.
+pub(crate) const GUESSED: u32 = 1;
+
+pub(crate) fn mark(bits: u32) -> u32 {
+    bits % 4
+}
+
+/// The bits without the mark, by which equal dates have equal hashes.
+pub(crate) fn unmarked(bits: u32) -> u32 {
+    bits - mark(bits)
 }
 
 pub(crate) fn year(bits: u32) -> i16 {

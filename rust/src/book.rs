@@ -24,7 +24,8 @@ use crate::{Date, DateHour, Eu5Date, PdsDate, RawDate, UniformDate, Vic3Date};
 /// The bytes of a book of 4,096 records, which is the longest.
 pub const ROOM: usize = 20_485;
 
-/// A date of any kind, as a book has it, or as a [lookup](crate::field_table::lookup) gives it.
+/// A date of any kind, as a book has it, or as a [lookup](crate::field_table::lookup) gives it. One that a book has is
+/// never marked as guessed.
 #[derive(Clone, Copy, Debug, PartialEq, Eq, Hash)]
 pub enum Record {
     /// Kind R.
@@ -107,7 +108,8 @@ pub fn record(book: &[u8], place: usize) -> Result<Record, Refusal> {
 }
 
 /// Appends a date and gives its place. Refusals as those of [`check`], then 12 where the book has 4,096 records or
-/// there are under five bytes after it.
+/// there are under five bytes after it, then 20 where the date was guessed: the book cannot tell that it was. Who wants it
+/// there all the same appends it [without its mark](PdsDate::without_mark).
 ///
 /// ```
 /// use pennyquill::{Date, Refusal, book};
@@ -117,6 +119,21 @@ pub fn record(book: &[u8], place: usize) -> Result<Record, Refusal> {
 /// assert_eq!(book::append(&mut buffer, &date)?, 0);
 /// assert_eq!(buffer[..10], [0, 0, 0, 6, 1, 2, 0x05, 0xA4, 0xB5, 0x80]);
 /// assert_eq!(book::append(&mut buffer, &date), Err(Refusal::NoRoom));
+/// # Ok::<(), Refusal>(())
+/// ```
+///
+/// ```
+/// use pennyquill::{Date, PdsDate, Refusal, book};
+/// let mut buffer = [0; 10];
+/// book::new(&mut buffer)?;
+/// let guessed = Date::from_binary_heuristic(56_456_976)?;
+/// assert_eq!(book::append(&mut buffer, &guessed), Err(Refusal::GuessedDate));
+/// assert_eq!(book::append(&mut buffer, &guessed.without_mark())?, 0);
+/// assert_eq!(book::append(&mut buffer, &guessed), Err(Refusal::NoRoom));
+///
+/// // A record with a mark is none of a book of version 1.
+/// buffer[9] |= 1;
+/// assert_eq!(book::check(&buffer), Err(Refusal::BadRecord(0)));
 /// # Ok::<(), Refusal>(())
 /// ```
 pub fn append<K: PdsDate>(book: &mut [u8], date: &K) -> Result<usize, Refusal> {

@@ -13,7 +13,7 @@ use crate::refusal::Refusal;
 /// assert_eq!((date.year(), date.month(), date.day()), (1444, 11, 11));
 /// # Ok::<(), pennyquill::Refusal>(())
 /// ```
-#[derive(Clone, Copy, PartialEq, Eq, Hash)]
+#[derive(Clone, Copy)]
 pub struct Date {
     bits: u32,
 }

@@ -13,7 +13,7 @@ use crate::refusal::Refusal;
 /// assert_eq!(date.iso_8601(), "1936-01-02T23");
 /// # Ok::<(), pennyquill::Refusal>(())
 /// ```
-#[derive(Clone, Copy, PartialEq, Eq, Hash)]
+#[derive(Clone, Copy)]
 pub struct DateHour {
     bits: u32,
 }

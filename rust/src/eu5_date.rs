@@ -16,7 +16,7 @@ use crate::text::Text;
 /// assert_eq!(date.iso_8601(), "1444-11-11T09");
 /// # Ok::<(), pennyquill::Refusal>(())
 /// ```
-#[derive(Clone, Copy, PartialEq, Eq, Hash)]
+#[derive(Clone, Copy)]
 pub struct Eu5Date {
     bits: u32,
 }

@@ -1,7 +1,7 @@
 //! The C boundary of the proved library, as `include/pennyquill.h` declares it.
 //!
 //! A kind is its code in the book: R 1, D 2, H 3, U 4, E 5, V 6. A date is its year's sixteen bits above its packed
-//! word. Refusal 0 means that the value holds the answer; at 11 the value is a place; at every other refusal the
+//! word, with its mark in the two lowest: equal dates may differ there, and are compared by `pq_order`. Refusal 0 means that the value holds the answer; at 11 the value is a place; at every other refusal the
 //! other members are 0. Every function answers whatever it is handed, given that its pointers are valid: each aligned
 //! for its type, good for as many bytes or numbers as the length after it says, and no two of them for the same ones.
 #![allow(missing_docs)] // the header has them
@@ -33,7 +33,8 @@ pub struct Record {
     pub field: u32,
 }
 
-/// A date that was looked up in a table. `value` is the date; `guessed` is 0 for a declared field, 1 for any other.
+/// A date that was looked up in a table. `value` is the date; `guessed` is 0 for a declared field, 1 for any other, and
+/// so is the date's mark.
 #[repr(C)]
 #[derive(Clone, Copy, Debug, PartialEq, Eq)]
 pub struct Lookup {
@@ -48,6 +49,7 @@ unsafe extern "C" {
     pub safe fn pq_read_number(kind: u32, number: i32) -> Answer;
     pub safe fn pq_guess_number(kind: u32, number: i32) -> Answer;
     pub safe fn pq_from_fields(kind: u32, year: i32, month: u32, day: u32, hour: u32) -> Answer;
+    pub safe fn pq_without_mark(kind: u32, date: u32) -> Answer;
     pub safe fn pq_add_days(kind: u32, date: u32, days: i32) -> Answer;
     pub safe fn pq_start_of_day(kind: u32, date: u32) -> Answer;
     pub safe fn pq_to_number(kind: u32, date: u32) -> Number;

@@ -9,27 +9,71 @@ use crate::text::Text;
 ///
 /// A value of a kind is always a date of the kind, so that its texts are never refused; only a lent buffer may be too
 /// short for one.
+///
+/// A date has a mark: whether it was guessed. The mark is no part of what the date is: two dates that differ in it alone
+/// are equal, in order and in a hash as well, and have the same texts.
 pub trait PdsDate: Copy + Sized {
     /// The kind's code in a book: R 1, D 2, H 3, U 4, E 5, V 6.
     const KIND: u32;
 
-    /// The year's sixteen bits above the packed word: month × 4096 + day × 128 + hour × 4.
+    /// The year's sixteen bits above the packed word: month × 4096 + day × 128 + hour × 4, and 1 more where the date was
+    /// guessed. So equal dates may have two numbers here: compare dates and not their bits.
     ///
     /// ```
     /// use pennyquill::{Date, PdsDate};
     /// assert_eq!(Date::parse("1444.11.11")?.bits(), 0x05A4_B580);
+    /// assert_eq!(Date::from_binary_heuristic(56_456_976)?.bits(), 0x05A4_B581);
     /// # Ok::<(), pennyquill::Refusal>(())
     /// ```
     fn bits(&self) -> u32;
 
-    /// The date with these bits, if they are those of a date of the kind; else refusal 4.
+    /// The date with these bits, with its mark, if they are those of a date of the kind; else refusal 4.
     ///
     /// ```
     /// use pennyquill::{Date, DateHour, PdsDate, Refusal};
     /// assert_eq!(Date::from_bits(0x05A4_B580), Date::parse("1444.11.11"));
+    /// assert_eq!(Date::from_bits(0x05A4_B581), Date::parse("1444.11.11"));
+    /// assert_eq!(Date::from_bits(0x05A4_B582), Err(Refusal::NotOfKind)); // no date has the mark 2
     /// assert_eq!(DateHour::from_bits(0x05A4_B580), Err(Refusal::NotOfKind)); // H has no hour 0
     /// ```
     fn from_bits(bits: u32) -> Result<Self, Refusal>;
+
+    /// Whether the date was guessed: read by a kind's `from_binary_heuristic`, or by a
+    /// [lookup](crate::field_table::lookup) of a field that is not declared. What is added to a guessed date, and the
+    /// start of its day, is guessed too. Not in jomini.
+    ///
+    /// ```
+    /// use pennyquill::{Date, PdsDate};
+    /// let guessed = Date::from_binary_heuristic(56_456_976)?;
+    /// let declared = Date::from_binary(56_456_976)?;
+    /// assert!(guessed.is_guessed());
+    /// assert!(!declared.is_guessed());
+    /// assert!(guessed.add_days(20)?.is_guessed());
+    ///
+    /// // They are the same date, and have the same texts.
+    /// assert_eq!(guessed, declared);
+    /// assert_eq!(guessed.cmp(&declared), std::cmp::Ordering::Equal);
+    /// assert_eq!(guessed.game_fmt(), declared.game_fmt());
+    /// # Ok::<(), pennyquill::Refusal>(())
+    /// ```
+    fn is_guessed(&self) -> bool {
+        bits::mark(self.bits()) == bits::GUESSED
+    }
+
+    /// The same date without its mark: as one that nobody had to guess. Not in jomini.
+    ///
+    /// ```
+    /// use pennyquill::{Date, PdsDate};
+    /// let guessed = Date::from_binary_heuristic(56_456_976)?;
+    /// assert!(!guessed.without_mark().is_guessed());
+    /// assert_eq!(guessed.without_mark().bits(), 0x05A4_B580);
+    /// # Ok::<(), pennyquill::Refusal>(())
+    /// ```
+    fn without_mark(&self) -> Self {
+        bits::given(ffi::pq_without_mark(Self::KIND, self.bits()))
+            .and_then(Self::from_bits)
+            .expect("a date of a kind is one without its mark")
+    }
 
     /// The year, -32768 to 32767.
     ///
@@ -162,7 +206,8 @@ pub(crate) fn whole<K: PdsDate>(writer: Writer, date: &K) -> Text {
     })
 }
 
-/// What each kind has in the same way: its bits, its order, and its text as another's `FromStr` and `Debug`.
+/// What each kind has in the same way: its bits, its order, equality and hash, which do not see the mark, and its text as
+/// another's `FromStr` and `Debug`.
 macro_rules! pds_date {
     ($kind:ident, $code:literal) => {
         impl $crate::PdsDate for $kind {
@@ -187,6 +232,20 @@ macro_rules! pds_date {
         impl PartialOrd for $kind {
             fn partial_cmp(&self, other: &Self) -> Option<std::cmp::Ordering> {
                 Some(self.cmp(other))
+            }
+        }
+
+        impl PartialEq for $kind {
+            fn eq(&self, other: &Self) -> bool {
+                self.cmp(other).is_eq()
+            }
+        }
+
+        impl Eq for $kind {}
+
+        impl std::hash::Hash for $kind {
+            fn hash<H: std::hash::Hasher>(&self, state: &mut H) {
+                $crate::bits::unmarked(self.bits).hash(state)
             }
         }
 

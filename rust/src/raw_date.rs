@@ -14,7 +14,7 @@ use crate::refusal::Refusal;
 /// assert_eq!(date.iso_8601(), "1444-02-31T23");
 /// # Ok::<(), pennyquill::Refusal>(())
 /// ```
-#[derive(Clone, Copy, PartialEq, Eq, Hash)]
+#[derive(Clone, Copy)]
 pub struct RawDate {
     bits: u32,
 }

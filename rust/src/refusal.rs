@@ -20,7 +20,7 @@ pub enum Refusal {
     NotText,
     /// 3: a number that is no date of the kind, or that the guess does not take for one.
     NotNumber,
-    /// 4: fields or bits that are no date of the kind.
+    /// 4: fields or bits that are no date of the kind, or a mark that no date has.
     NotOfKind,
     /// 5: a sum of days outside 32 bits.
     SumTooLarge,
@@ -34,7 +34,7 @@ pub enum Refusal {
     NotBook,
     /// 10: a book or a table of another version than 1.
     WrongVersion,
-    /// 11: a record that no date of its kind has, with the place of the first one, from 0.
+    /// 11: a record that no date of its kind has, or with a mark, with the place of the first one, from 0.
     BadRecord(usize),
     /// 12: no room for a new book or table, or for one more record.
     NoRoom,
@@ -46,10 +46,12 @@ pub enum Refusal {
     TableFull,
     /// 16: a field to be removed that the table does not have.
     NotThere,
+    /// 20: a guessed date for a book of version 1, which takes none.
+    GuessedDate,
 }
 
 impl Refusal {
-    /// The number of the refusal, 1 to 16.
+    /// The number of the refusal: 1 to 16, or 20.
     ///
     /// ```
     /// use pennyquill::{DateHour, Refusal};
@@ -57,6 +59,7 @@ impl Refusal {
     /// assert_eq!(refusal.number(), 4);
     /// assert_eq!(Refusal::BadRecord(7).number(), 11);
     /// assert_eq!(Refusal::NotThere.number(), 16);
+    /// assert_eq!(Refusal::GuessedDate.number(), 20);
     /// ```
     pub fn number(self) -> u32 {
         match self {
@@ -76,6 +79,7 @@ impl Refusal {
             Refusal::BadEntry => 14,
             Refusal::TableFull => 15,
             Refusal::NotThere => 16,
+            Refusal::GuessedDate => 20,
         }
     }
 
@@ -98,6 +102,7 @@ impl Refusal {
             14 => Refusal::BadEntry,
             15 => Refusal::TableFull,
             16 => Refusal::NotThere,
+            20 => Refusal::GuessedDate,
             _ => unreachable!("the boundary gives no refusal {number}"),
         }
     }
@@ -126,6 +131,7 @@ impl Refusal {
             }
             Refusal::TableFull => "the table has 2,048 entries already, or no room for one more",
             Refusal::NotThere => "the table has no such field to remove",
+            Refusal::GuessedDate => "a book of version 1 takes no guessed date",
         }
     }
 }

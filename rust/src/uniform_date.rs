@@ -12,7 +12,7 @@ use crate::refusal::Refusal;
 /// assert_eq!(UniformDate::parse("2200.2.30")?.game_fmt(), "2200.02.30");
 /// # Ok::<(), pennyquill::Refusal>(())
 /// ```
-#[derive(Clone, Copy, PartialEq, Eq, Hash)]
+#[derive(Clone, Copy)]
 pub struct UniformDate {
     bits: u32,
 }

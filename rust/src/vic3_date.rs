@@ -14,7 +14,7 @@ use crate::refusal::Refusal;
 /// assert_eq!(date.iso_8601(), "1836-02-03T06");
 /// # Ok::<(), pennyquill::Refusal>(())
 /// ```
-#[derive(Clone, Copy, PartialEq, Eq, Hash)]
+#[derive(Clone, Copy)]
 pub struct Vic3Date {
     bits: u32,
 }

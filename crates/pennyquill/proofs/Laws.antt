@@ -1,13 +1,13 @@
 -- The boundary's laws: a kind by its code, and a date's number handed in again. Assumes nothing.
-use mathlib.Core.Path.{_≡_, sym, ap, _∙_}
+use mathlib.Core.Path.{_≡_, sym, ap, subst, _∙_}
 use mathlib.Core.Bool.{true}
-use Prim.Native.Nat.{ℕ, _/_, _%_}
+use Prim.Native.Nat.{ℕ, _/_, _%_, _<_}
 use native.Mathlib.Omega.{arith}
 use Rattle.rules.specs.Refusals.{Answer, Gives}
-use Rattle.rules.specs.Kinds.{Kind, Fields, Stored, ofKind, noMark, wordOf, stored, handed}
+use Rattle.rules.specs.Kinds.{Kind, Fields, Stored, ofKind, wordOf, markAllowed, storedWith, storeLike, handed}
 use Rattle.rules.specs.Book.{kindCode, kindOfCode, twosComplement, entryFor}
 use Rattle.rules.proofs.OnKinds.KindLaws.{fit}
-use Rattle.rules.proofs.OnKinds.PackLaws.{handed-back, word-fits}
+use Rattle.rules.proofs.OnKinds.PackLaws.{marked-back, word-fits}
 use Rattle.rules.proofs.OnBook.EntryLaws.{code-back, twos-fit, year-back}
 use Rattle.codes.specs.declared.Coded.{Coded}
 use Rattle.codes.specs.Views.{codedAs}
@@ -26,13 +26,18 @@ entry-code code {k = k} d e = rw (e, code-back k)
 
 -- ---- a date's number
 
--- what one function hands out as a date of a kind, the next takes as that date
-pub number-back : (k : Kind) (f : Fields) → ofKind k f ≡ true → handed k (dateIn (dateNumber (stored f))) ≡ Gives f
-number-back k f p =
+-- what is handed out like a date is handed out like that of the number that crossed
+pub like-date : (next : Stored → Answer Fields) {x : Answer Stored} {d e : Stored} → d ≡ e → x ≡ storeLike d (next d) → x ≡ storeLike e (next e)
+like-date next {x} same is = subst (λ (d : Stored). x ≡ storeLike d (next d)) same is
+
+-- what one function hands out as a date of a kind, with its mark, the next takes as that date
+pub number-back : (k : Kind) (mark : ℕ) (f : Fields) → mark < 4 → markAllowed mark ≡ true → ofKind k f ≡ true →
+    handed k (dateIn (dateNumber (storedWith mark f))) ≡ Gives f
+number-back k mark f m a p =
     let t = fit k f p in
     let y = twos-fit (f .year) (t .year-high) (t .year-low) in
-    let w = word-fits k f p in
-    let n = dateNumber (stored f) in
+    let w = word-fits k mark f m p in
+    let n = dateNumber (storedWith mark f) in
     let high : n / 65536 ≡ twosComplement (f .year) = omega arith in
-    let low : n % 65536 ≡ wordOf noMark f = omega arith in
-    rw (high, low, year-back (f .year) (t .year-high) (t .year-low)) (handed-back k f p)
+    let low : n % 65536 ≡ wordOf mark f = omega arith in
+    rw (high, low, year-back (f .year) (t .year-high) (t .year-low)) (marked-back k mark f m a p)

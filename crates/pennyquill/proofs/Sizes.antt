@@ -10,9 +10,9 @@ use lib.IntN.{ℤ}
 use lib.ListN.{length, getD, take, drop}
 use Rattle.rules.specs.Words.{within, bigEndian}
 use Rattle.rules.specs.Refusals.{Answer, Gives, Refused, RefusedAt, _then_, demand, notOfKind, badRecord}
-use Rattle.rules.specs.Kinds.{Kind, Fields, Stored, ofKind, made, markOf, markAllowed, unpacked, handed, ofDate}
+use Rattle.rules.specs.Kinds.{Kind, Fields, Stored, ofKind, made, markOf, noMark, markAllowed, unpacked, handed, ofDate}
 use Rattle.rules.specs.Spelling.{dotted, iso, hasIsoDate, isoDateAlone, exchange, putAnswer}
-use Rattle.rules.specs.Book.{lengthSize, headSize, lengthLimit, kindCode, kindOfCode, lengthSaid, versionOf, framed, firstBad, allPass, records, check, pick, recordAt, appendAnswer, yearOfTwos, entryFrom, entryOf, version1, entryAt, entryFor, soundBy}
+use Rattle.rules.specs.Book.{lengthSize, headSize, lengthLimit, kindCode, kindOfCode, lengthSaid, versionOf, framed, firstBad, allPass, records, check, pick, recordAt, placeAfter, appendAnswer, yearOfTwos, unmarkedDate, entryFrom, entryOf, version1, entryAt, entryFor, soundBy}
 use Rattle.rules.proofs.OnRefusals.OutcomeLaws.{Outcome, gives, refuses}
 use Rattle.rules.proofs.OnKinds.CodeLaws.{outcome-kind}
 use Rattle.rules.proofs.OnKinds.KindLaws.{high}
@@ -151,8 +151,10 @@ module _ (s : List ℕ) where
       (small-then Any Few (entryFor code d) _
       (small-then Any Any (kindOfCode code) _ (code-small code)
       (λ k any. small-then (λ f. ofKind k f ≡ true) Any (handed k d) _ (handed-small k d) (λ f p. tt)))
-      (λ r any. small-then Few Few (check version1 s) _ few-checked
-      (λ n few. small-demand Few (ltb n 4096 && leb (lengthSaid s + lengthSize + 5) (length s)) _ _ (λ room. few))))
+      (λ r any. small-then Few Few (check version1 s then placeAfter (version1 .frame) s) _
+      (small-then Few Few (check version1 s) _ few-checked
+      (λ n few. small-demand Few (ltb n 4096 && leb (lengthSaid s + lengthSize + 5) (length s)) _ _ (λ room. few)))
+      (λ n few. small-demand Few (soundBy version1 r) _ _ (λ sound. few))))
 
   pick-small : (rs : List (List ℕ)) (place : ℕ) → Small Any (pick rs place)
   unfolding pick
@@ -165,7 +167,8 @@ module _ (s : List ℕ) where
   entry-small r =
       let d : Stored = record { year = yearOfTwos (bigEndian (take 2 (drop 1 r))); word = bigEndian (take 2 (drop 3 r)) } in
       small-then Any Any (kindOfCode (getD r 0 0)) _ (code-small (getD r 0 0))
-      (λ k any. small-then (λ f. ofKind k f ≡ true) Any (handed k d) _ (handed-small k d) (λ f p. tt))
+      (λ k any. small-then (λ f. ofKind k f ≡ true) Any (unmarkedDate k d) _
+      (small-demand (λ f. ofKind k f ≡ true) (eqb (markOf (d .word)) noMark) _ _ (λ none. handed-small k d)) (λ f p. tt))
 
   pub record-small : (place : ℕ) → placeOf (inBits (entryAt version1 s place)) ≤ 4096
   unfolding entryAt recordAt

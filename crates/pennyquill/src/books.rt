@@ -59,6 +59,7 @@ fn place_crossed(appended: Appended) -> PqAnswer
         Appended::BadVersion => crossing::refused(refusals::BAD_VERSION),
         Appended::BadRecord(place) => bad_record(place),
         Appended::NoRoom => crossing::refused(refusals::NO_ROOM),
+        Appended::GuessedDate => crossing::refused(refusals::GUESSED_DATE),
     }
 }
 

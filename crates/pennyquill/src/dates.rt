@@ -1,14 +1,15 @@
-// Dates read: from a text, from an ISO text, from a number by the full decoder or by the guess, and from fields.
+// Dates read: from a text, from an ISO text, from a number by the full decoder or by the guess, and from fields; and a date without its
+// mark.
 ghost use mathlib.Core.Path.{_≡_};
 ghost use Rattle.rules.specs.Refusals.{notOfKind};
-ghost use Rattle.rules.specs.Kinds.{fromFields};
+ghost use Rattle.rules.specs.Kinds.{fromFields, storeGuess, withoutMark};
 ghost use Rattle.rules.specs.Numbers.{readNumber, guessNumber};
 ghost use Rattle.rules.specs.Text.{readText};
 ghost use Rattle.requests.specs.IsoReader.{readIso};
 ghost use Rattle.kinds.specs.Views.{madeAs};
 ghost use Rattle.number.specs.Views.{readAs, guessedAs};
 ghost use Rattle.by_kind.specs.Views.{parsedAs};
-ghost use Rattle.pennyquill.specs.Boundary.{ofKindGiven, bitsCrossed, dateCrossed};
+ghost use Rattle.pennyquill.specs.Boundary.{dateIn, ofKindGiven, bitsCrossed, dateCrossed};
 use crate::PqAnswer;
 use crate::crossing;
 use by_kind::Parsed;
@@ -84,7 +85,7 @@ pub extern "C" fn pq_read_number(kind: u32, number: i32) -> PqAnswer
 
 #[no_mangle]
 pub extern "C" fn pq_guess_number(kind: u32, number: i32) -> PqAnswer
-    ensures { λ r. ⌜ r ≡ dateCrossed (ofKindGiven kind (λ k. guessNumber k number)) ⌝ }
+    ensures { λ r. ⌜ r ≡ bitsCrossed (storeGuess (ofKindGiven kind (λ k. guessNumber k number))) ⌝ }
 {
     let Coded::Kind(kind) = codes::kind_of_code(kind) else {
         return crossing::not_of_kind();
@@ -95,7 +96,7 @@ pub extern "C" fn pq_guess_number(kind: u32, number: i32) -> PqAnswer
     crossing::not_of_kind()
 }
 
-// ---- from fields
+// ---- from fields, and from a date
 
 fn made_crossed(made: Made) -> PqAnswer
     ensures { λ r. ⌜ r ≡ bitsCrossed (madeAs notOfKind made) ⌝ }
@@ -114,4 +115,14 @@ pub extern "C" fn pq_from_fields(kind: u32, year: i32, month: u32, day: u32, hou
         return crossing::not_of_kind();
     };
     made_crossed(kinds::from_fields(kind, year, month, day, hour))
+}
+
+#[no_mangle]
+pub extern "C" fn pq_without_mark(kind: u32, date: u32) -> PqAnswer
+    ensures { λ r. ⌜ r ≡ bitsCrossed (ofKindGiven kind (λ k. withoutMark k (dateIn date))) ⌝ }
+{
+    let Coded::Kind(kind) = codes::kind_of_code(kind) else {
+        return crossing::not_of_kind();
+    };
+    made_crossed(kinds::without_mark(kind, crossing::date_in(date)))
 }

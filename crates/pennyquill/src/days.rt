@@ -1,12 +1,13 @@
 // A date moved by days and its start of day; its number, the days between two dates, and their order.
 ghost use mathlib.Core.Path.{_≡_};
 ghost use Rattle.rules.specs.Refusals.{Gives};
+ghost use Rattle.rules.specs.Kinds.{storeLike};
 ghost use Rattle.rules.specs.Days.{difference, addDays, startOfDay, order};
 ghost use Rattle.rules.specs.Numbers.{writeNumber};
 ghost use Rattle.kinds.specs.Views.{orderedAs};
 ghost use Rattle.number.specs.Views.{writtenAs};
 ghost use Rattle.day_count.specs.Views.{summedAs, countedAs, startAs};
-ghost use Rattle.pennyquill.specs.Boundary.{ofDateGiven, ofDatesGiven, bitsCrossed, dateCrossed, numberCrossed, orderCrossed};
+ghost use Rattle.pennyquill.specs.Boundary.{dateIn, ofDateGiven, ofDatesGiven, bitsCrossed, numberCrossed, orderCrossed};
 use crate::PqAnswer;
 use crate::PqNumber;
 use crate::crossing;
@@ -41,7 +42,7 @@ fn start_crossed(start: Start) -> PqAnswer
 
 #[no_mangle]
 pub extern "C" fn pq_add_days(kind: u32, date: u32, days: i32) -> PqAnswer
-    ensures { λ r. ⌜ r ≡ dateCrossed (ofDateGiven kind date (λ k f. addDays k f days)) ⌝ }
+    ensures { λ r. ⌜ r ≡ bitsCrossed (storeLike (dateIn date) (ofDateGiven kind date (λ k f. addDays k f days))) ⌝ }
 {
     let Coded::Kind(kind) = codes::kind_of_code(kind) else {
         return crossing::not_of_kind();
@@ -51,7 +52,7 @@ pub extern "C" fn pq_add_days(kind: u32, date: u32, days: i32) -> PqAnswer
 
 #[no_mangle]
 pub extern "C" fn pq_start_of_day(kind: u32, date: u32) -> PqAnswer
-    ensures { λ r. ⌜ r ≡ dateCrossed (ofDateGiven kind date (λ k f. startOfDay k f)) ⌝ }
+    ensures { λ r. ⌜ r ≡ bitsCrossed (storeLike (dateIn date) (ofDateGiven kind date (λ k f. startOfDay k f))) ⌝ }
 {
     let Coded::Kind(kind) = codes::kind_of_code(kind) else {
         return crossing::not_of_kind();

@@ -28,6 +28,9 @@ returns-5 c = rw (c .before .before .appended2 .given .1) (c .bad-record .ensure
 returns-6 : tie.Need-returns-6
 returns-6 c = rw (c .before .enum-told4 .given .1) (c .refused3 .ensures)
 
+returns-7 : tie.Need-returns-7
+returns-7 c = rw (c .before .enum-told5 .given .1) (c .refused4 .ensures)
+
 pub place-crossed-spec : {M : Type 1} → statement M
 place-crossed-spec =
     tie.close
@@ -45,9 +48,12 @@ place-crossed-spec =
     bad-record-requires
     (λ c. search needs)
     (λ c κs. search needs)
+    (λ c. search needs)
+    (λ c κs. search needs)
     returns
     returns-2
     returns-3
     returns-4
     returns-5
-    returns-6)
+    returns-6
+    returns-7)

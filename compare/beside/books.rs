@@ -1,12 +1,9 @@
 //! Books, which the original lacks: held against the second reading of document 01.
 
-use crate::port;
+use crate::book_questions::{append, append_marked, check, new, record};
 use crate::random::Random;
 use crate::report::{Covers, Extent, Report};
 use crate::tally::{Tally, share};
-use pennyquill::ffi::{Answer, Record};
-use second_reading::book::{self, Refusal};
-use second_reading::kinds::KINDS;
 
 const HEAD: usize = 5;
 const RECORD: usize = 5;
@@ -22,10 +19,12 @@ pub fn run(extent: Extent, report: &mut Report) {
     let name = "books of one record: every kind byte and every word, at some years";
     report.row(name, Covers::Sample, records(years));
     report.row(
-        "appends of every kind and every word",
+        "appends of every kind and every word, with room and without",
         Covers::Sample,
         appends(),
     );
+    let name = "appends of dates with each mark: room, no room, full books and no books";
+    report.row(name, Covers::Sample, marked_appends());
     let name = "books with one byte changed to each of 256, all cuts";
     report.row(name, Covers::All, damaged());
     report.row(
@@ -38,106 +37,23 @@ pub fn run(extent: Extent, report: &mut Report) {
         Covers::All,
         full_books(extent),
     );
-    report.row(
-        "random books",
-        Covers::Sample,
-        random_books(extent.pick(400_000, 20_000_000)),
-    );
+    let name = "full books: a mark in the record at each place";
+    report.row(name, extent.covers_all(), marked_full_books(extent));
+    let count = extent.pick(400_000, 20_000_000);
+    report.row("random books", Covers::Sample, random_books(count, &[0]));
+    let name = "random books, records and dates with marks";
+    report.row(name, Covers::Sample, random_books(count, &MARKS));
 }
 
-fn told<T>(answer: Result<T, Refusal>, value: impl FnOnce(T) -> u32) -> Answer {
-    match answer {
-        Ok(given) => Answer {
-            refusal: 0,
-            value: value(given),
-        },
-        Err(Refusal::Number(refusal)) => Answer {
-            refusal: refusal.into(),
-            value: 0,
-        },
-        Err(Refusal::Record(place)) => Answer {
-            refusal: 11,
-            value: place as u32,
-        },
-    }
-}
-
-fn shown(buffer: &[u8]) -> String {
-    let first: String = buffer
-        .iter()
-        .take(20)
-        .map(|byte| format!("{byte:02x}"))
-        .collect();
-    format!("{} bytes, {first}", buffer.len())
-}
-
-fn check(tally: &mut Tally, buffer: &[u8]) {
-    let right = told(book::check(buffer), |records| records as u32);
-    tally.hold(right, port::book_check(buffer), || {
-        format!("check of {}", shown(buffer))
-    });
-}
-
-fn record(tally: &mut Tally, buffer: &[u8], place: usize) {
-    let right = match book::record(buffer, place) {
-        Ok(record) => Record {
-            refusal: 0,
-            kind: code(record.kind),
-            value: u32::from(record.year as u16) << 16 | u32::from(record.word),
-            field: 0,
-        },
-        Err(refusal) => {
-            let Answer { refusal, value } = told::<()>(Err(refusal), |()| 0);
-            Record {
-                refusal,
-                kind: 0,
-                value,
-                field: 0,
-            }
-        }
-    };
-    let asked = || format!("record {place} of {}", shown(buffer));
-    tally.hold(right, port::book_record(buffer, place), asked);
-}
-
-fn code(kind: second_reading::kinds::Kind) -> u32 {
-    let place = KINDS.iter().position(|&other| other == kind);
-    place.expect("a kind is one of six") as u32 + 1
-}
-
-/// What is answered, and every byte afterwards.
-fn append(tally: &mut Tally, buffer: &[u8], kind: u32, date: u32) {
-    let (mut right_buffer, mut port_buffer) = (buffer.to_vec(), buffer.to_vec());
-    let record = book::Record {
-        kind: KINDS[kind as usize - 1],
-        year: (date >> 16) as u16 as i16,
-        word: date as u16,
-    };
-    let right = told(book::append(&mut right_buffer, record), |place| {
-        place as u32
-    });
-    let port = port::book_append(&mut port_buffer, kind, date);
-    let asked = || format!("kind {kind}, {date:#010x} appended to {}", shown(buffer));
-    tally.hold(right, port, asked);
-    tally.hold(&right_buffer, &port_buffer, asked);
-}
-
-fn new(tally: &mut Tally, buffer: &[u8]) {
-    let (mut right_buffer, mut port_buffer) = (buffer.to_vec(), buffer.to_vec());
-    let right = told(book::new(&mut right_buffer), |()| 0);
-    let port = port::book_new(&mut port_buffer);
-    let asked = || format!("new over {}", shown(buffer));
-    tally.hold(right, port, asked);
-    tally.hold(&right_buffer, &port_buffer, asked);
-}
+/// Those of the records of random books: most have none.
+const MARKS: [i64; 10] = [0, 0, 0, 0, 0, 0, 0, 1, 2, 3];
 
 fn all_operations(tally: &mut Tally, buffer: &[u8]) {
     check(tally, buffer);
     for place in [0, 1, 2, 3, 4095, 4096, usize::MAX, usize::MAX / 5 + 1] {
         record(tally, buffer, place);
     }
-    append(tally, buffer, 2, D_DATE);
-    append(tally, buffer, 2, D_DATE + 1);
+    append_marked(tally, buffer, 2, D_DATE);
     new(tally, buffer);
 }
 
@@ -173,6 +89,31 @@ fn appends() -> Tally {
             let date = 0x7FFF_0000 | u32::from(word);
             append(tally, &empty, kind as u32 + 1, date);
             append(tally, &full, kind as u32 + 1, date);
+        }
+    })
+}
+
+/// 1444.11.11 of each kind, H's at its first hour, into a book and into books of each refusal, with room and
+/// without; and into full books and those that one record fills.
+fn marked_appends() -> Tally {
+    share(6, |kind, tally| {
+        let kind = kind as u32 + 1;
+        let date = if kind == 3 { D_DATE + 4 } else { D_DATE };
+        for after in 0..=6 {
+            for records in [MOST_RECORDS - 1, MOST_RECORDS] {
+                let full = book_of(&vec![D_RECORD; records], after);
+                append_marked(tally, &full, kind, date);
+            }
+            let whole = book_of(&[D_RECORD, E_RECORD], after);
+            append_marked(tally, &whole, kind, date);
+            for place in 0..HEAD + 2 * RECORD {
+                for bit in 0..8 {
+                    let mut book = whole.clone();
+                    book[place] ^= 1 << bit;
+                    append_marked(tally, &book, kind, date);
+                }
+                append_marked(tally, &whole[..place], kind, date);
+            }
         }
     })
 }
@@ -237,14 +178,35 @@ fn full_books(extent: Extent) -> Tally {
     })
 }
 
-/// Books of a few records, most of them sound, with a byte or two changed.
-fn random_books(count: u64) -> Tally {
+/// Each mark at each place, and dates with each mark appended there: 11 and the place, also where there are
+/// two.
+fn marked_full_books(extent: Extent) -> Tally {
+    let step = extent.pick(64, 1);
+    let whole = book_of(&vec![D_RECORD; MOST_RECORDS], RECORD);
+    share((MOST_RECORDS / step) as u64, |part, tally| {
+        let place = part as usize * step;
+        let last = HEAD + place * RECORD + RECORD - 1;
+        let mut book = whole.clone();
+        for mark in 1..=3 {
+            book[last] = whole[last] + mark;
+            check(tally, &book);
+            record(tally, &book, place);
+            append_marked(tally, &book, 2, D_DATE);
+        }
+        book[HEAD + RECORD - 1] += 1;
+        check(tally, &book);
+    })
+}
+
+/// Books of a few records, most of them sound, with a byte or two changed. Records and the dates that are
+/// appended have some of these marks.
+fn random_books(count: u64, marks: &[i64]) -> Tally {
     const PARTS: u64 = 100;
     share(PARTS, |part, tally| {
         let mut random = Random::new(part);
         for _ in 0..count / PARTS {
             let records: Vec<[u8; RECORD]> = (0..random.index(6))
-                .map(|_| some_record(&mut random))
+                .map(|_| some_record(&mut random, marks))
                 .collect();
             let after = random.index(8);
             let mut book = book_of(&records, after);
@@ -255,17 +217,18 @@ fn random_books(count: u64) -> Tally {
             let place = random.index(7);
             check(tally, &book);
             record(tally, &book, place);
-            let [kind, date @ ..] = some_record(&mut random);
+            let [kind, date @ ..] = some_record(&mut random, marks);
             append(tally, &book, u32::from(kind), u32::from_be_bytes(date));
         }
     })
 }
 
-/// A day that every kind has, at an hour that some have.
-fn some_record(random: &mut Random) -> [u8; RECORD] {
+/// A day that every kind has, at an hour that some have, with one of these marks.
+fn some_record(random: &mut Random, marks: &[i64]) -> [u8; RECORD] {
     let word = random.between(1, 12) << 12
         | random.between(1, 28) << 7
-        | random.pick(&[0, 1, 6, 12, 22, 23, 24]) << 2;
+        | random.pick(&[0, 1, 6, 12, 22, 23, 24]) << 2
+        | random.pick(marks);
     let [year, low] = (random.word() as u16).to_be_bytes();
     let [third, fourth] = (word as u16).to_be_bytes();
     [random.between(1, 6) as u8, year, low, third, fourth]

@@ -1,6 +1,7 @@
 //! Additions, differences, orders and starts of day, from every date.
 
 use crate::kinds::{Counted, Eu5Date, Fields, Kind};
+use crate::marked_days;
 use crate::original::{self, Coded, days, gives, or_panic, refused};
 use crate::report::{Covers, Extent, Report};
 use crate::tally::{Listed, Tally, share, share_with};
@@ -46,6 +47,7 @@ const FIXED: [(i16, u8, u8); 7] = [
 
 /// What takes longest comes last: of E, which has 23 hours, those between the first and the last.
 pub fn run(extent: Extent, report: &mut Report) {
+    marked_days::run(extent, report);
     starts(extent, report);
     for_all_six!(orders(extent, report));
     for_each!(differences(extent, report): Date, Eu5Date, Vic3Date);
@@ -62,7 +64,7 @@ pub fn run(extent: Extent, report: &mut Report) {
     additions::<Eu5Date>(extent, report, Sums::Landings, landings, is_inner);
 }
 
-fn date<K: Coded>(year: i16, (month, day, hour): (u8, u8, u8)) -> K {
+pub fn date<K: Coded>(year: i16, (month, day, hour): (u8, u8, u8)) -> K {
     original::with(Fields::new(year, month, day, hour)).expect("a date of the kind")
 }
 
@@ -102,7 +104,7 @@ fn additions<K: Coded + Counted>(
 /// Which additions are asked: the steps and the ends of what is a date and of 32 bits, the landings on
 /// each of -366 to 1, or all of these.
 #[derive(Clone, Copy, PartialEq)]
-enum Sums {
+pub enum Sums {
     All,
     Ends,
     Landings,
@@ -129,15 +131,8 @@ fn add_all<K: Coded + Counted>(
     asked: &mut Tally,
     decided: &mut Tally,
 ) {
-    // The days from 0.1.1, as the original counts them.
-    let number = i64::from(
-        K::make(Fields::new(0, 1, 1, 0))
-            .expect("0.1.1 is a date")
-            .until(date),
-    );
-    let mut add = |days: i32| {
-        let sum = number + i64::from(days);
-        let right = if (LEAST_SUM..=GREATEST_SUM).contains(&sum) {
+    each_addition(date, sums, |days, sum| {
+        let right = if is_number(sum) {
             gives(date.plus(days).bits())
         } else if asks_panics {
             panicked(asked, || date.plus(days).bits())
@@ -145,10 +140,17 @@ fn add_all<K: Coded + Counted>(
             return add_one(decided, date, days, refused(condition(sum)));
         };
         add_one(asked, date, days, right);
-    };
+    });
+}
+
+/// The days that are added to a date, each with the sum: of the date's number and the days.
+pub fn each_addition<K: Counted>(date: K, sums: Sums, mut add: impl FnMut(i32, i64)) {
+    // The days from 0.1.1, as the original counts them.
+    let zero = K::make(Fields::new(0, 1, 1, 0)).expect("0.1.1 is a date");
+    let number = i64::from(zero.until(date));
     let mut reach = |sum: i64| {
         if let Ok(days) = i32::try_from(sum - number) {
-            add(days);
+            add(days, sum);
         }
     };
     if sums.has_landings() {
@@ -156,8 +158,15 @@ fn add_all<K: Coded + Counted>(
     }
     if sums.has_ends() {
         SUMS.into_iter().for_each(&mut reach);
-        STEPS.into_iter().for_each(&mut add);
+        for days in STEPS {
+            add(days, number + i64::from(days));
+        }
     }
+}
+
+/// Whether a sum is a date's number.
+pub fn is_number(sum: i64) -> bool {
+    (LEAST_SUM..=GREATEST_SUM).contains(&sum)
 }
 
 #[inline]
@@ -182,7 +191,8 @@ fn panicked(tally: &mut Tally, add: impl FnOnce() -> u32) -> ffi::Answer {
     }
 }
 
-fn condition(sum: i64) -> u32 {
+/// The refusal of a sum that is no date's number.
+pub fn condition(sum: i64) -> u32 {
     match i32::try_from(sum) {
         Ok(_) => 6,
         Err(_) => 5,
@@ -199,7 +209,7 @@ fn fixed<K: Coded>() -> Vec<K> {
 }
 
 fn differences<K: Coded + Counted>(extent: Extent, report: &mut Report) {
-    let tally = each_pair::<K>(extent, |tally, one, other| {
+    let tally = each_pair::<K>(&years(extent, QUICK_STEP), |tally, one, other| {
         let right = Number {
             refusal: 0,
             value: one.until(other),
@@ -216,7 +226,7 @@ fn differences<K: Coded + Counted>(extent: Extent, report: &mut Report) {
 }
 
 fn orders<K: Coded>(extent: Extent, report: &mut Report) {
-    let tally = each_pair::<K>(extent, |tally, one, other| {
+    let tally = each_pair::<K>(&years(extent, QUICK_STEP), |tally, one, other| {
         let right = Number {
             refusal: 0,
             value: one.cmp(&other) as i32,
@@ -232,9 +242,9 @@ fn orders<K: Coded>(extent: Extent, report: &mut Report) {
     report.row(&name, extent.covers_all(), tally);
 }
 
-/// Every date with each fixed one, both ways round, and with itself.
-fn each_pair<K: Coded>(extent: Extent, ask: impl Fn(&mut Tally, K, K) + Sync) -> Tally {
-    let (years, days, fixed) = (years(extent, QUICK_STEP), days::<K>(), fixed::<K>());
+/// Every date of these years with each fixed one, both ways round, and with itself.
+pub fn each_pair<K: Coded>(years: &[i16], ask: impl Fn(&mut Tally, K, K) + Sync) -> Tally {
+    let (days, fixed) = (days::<K>(), fixed::<K>());
     share(years.len() as u64, |part, tally| {
         for &day in &days {
             let one = date::<K>(years[part as usize], day);

@@ -1,21 +1,18 @@
-//! Dates handed in that are none, codes that are no kind's, and operations that a kind lacks.
+//! Dates handed in: all of them (`words.rs`); then those that are none, codes that are no kind's, and
+//! operations that a kind lacks.
 
 use crate::kinds::{Date, DateHour, Eu5Date, Fields, RawDate, UniformDate, Vic3Date};
 use crate::original::{self, Coded, refused};
 use crate::port::{self, Writer};
 use crate::report::{Covers, Extent, Report};
 use crate::tally::{Listed, Tally, share};
+use crate::words;
 use crate::years::years;
 use pennyquill::ffi::{self, Answer, Number};
 
-const QUICK_STEP: i16 = 499;
 const OPERATIONS_STEP: i16 = 9000;
 const FILL: u8 = 0xA5;
-const SAME: Number = Number {
-    refusal: 0,
-    value: 0,
-};
-const REFUSED: Number = Number {
+pub const REFUSED: Number = Number {
     refusal: 4,
     value: 0,
 };
@@ -28,7 +25,7 @@ const WRITERS: [Writer; 4] = [
 ];
 
 pub fn run(extent: Extent, report: &mut Report) {
-    for_all_six!(words(extent, report));
+    words::run(extent, report);
     let tally = share(6, |part, tally| match part {
         0 => operations::<RawDate>(tally),
         1 => operations::<Date>(tally),
@@ -45,7 +42,11 @@ pub fn run(extent: Extent, report: &mut Report) {
     let mut tally = Tally::default();
     for_all_six!(lacking(&mut tally));
     lacking_numbers(&mut tally);
-    report.row("operations that a kind lacks", Covers::Sample, tally);
+    report.row(
+        "operations that a kind lacks, on declared and guessed dates",
+        Covers::Sample,
+        tally,
+    );
     report.row(
         "codes that are no kind's, each operation",
         Covers::Sample,
@@ -53,41 +54,13 @@ pub fn run(extent: Extent, report: &mut Report) {
     );
 }
 
-/// Whether a word is that of a date of the kind, by the original, which has no date with a low bit set.
-fn is_date<K: Coded>() -> Vec<bool> {
-    let has = |word: u16| {
-        let (month, day, hour) = (word >> 12, word >> 7 & 31, word >> 2 & 31);
-        let fields = Fields::new(1444, month as u8, day as u8, hour as u8);
-        word % 4 == 0 && original::with::<K>(fields).is_some()
-    };
-    (0..=u16::MAX).map(has).collect()
-}
-
-/// Every 32 bits: a date is in order with itself, and what is no date is 4.
-fn words<K: Coded>(extent: Extent, report: &mut Report) {
-    let (years, is_date) = (years(extent, QUICK_STEP), is_date::<K>());
-    let tally = share(years.len() as u64, |part, tally| {
-        let year = u32::from(years[part as usize] as u16);
-        for (word, &is_date) in (0..).zip(&is_date) {
-            let bits = year << 16 | word;
-            let right = if is_date { SAME } else { REFUSED };
-            let asked = || format!("{} {bits:#010x} handed in", K::LETTER);
-            tally.hold(right, ffi::pq_order(K::CODE, bits, bits), asked);
-            if !is_date {
-                tally.met(Listed::NoDate);
-            }
-        }
-    });
-    let name = format!("{}: which of all 32 bits handed in are a date", K::LETTER);
-    report.row(&name, extent.covers_all(), tally);
-}
-
 fn operations<K: Coded>(tally: &mut Tally) {
-    let is_date = is_date::<K>();
-    let good = u32::from(is_date.iter().position(|&is| is).expect("a kind has dates") as u16);
+    let dates = words::dates::<K>();
+    let first = dates.iter().position(Option::is_some);
+    let good = u32::from(first.expect("a kind has dates") as u16);
     for year in years(Extent::Quick, OPERATIONS_STEP) {
         let year = u32::from(year as u16) << 16;
-        for word in (0..=u16::MAX).filter(|&word| !is_date[usize::from(word)]) {
+        for word in (0..=u16::MAX).filter(|&word| dates[usize::from(word)].is_none()) {
             tally.met(Listed::NoDate);
             all_refused(tally, K::CODE, year | u32::from(word), year | good);
         }
@@ -98,6 +71,7 @@ fn operations<K: Coded>(tally: &mut Tally) {
 fn all_refused(tally: &mut Tally, kind: u32, date: u32, good: u32) {
     let asked = |what: &str| format!("kind {kind}, {date:#010x}: {what}");
     let mut hold = |answer: Answer, what: &str| tally.hold(refused(4), answer, || asked(what));
+    hold(ffi::pq_without_mark(kind, date), "without its mark");
     hold(ffi::pq_add_days(kind, date, 1), "plus 1");
     hold(ffi::pq_start_of_day(kind, date), "start of day");
     let mut hold = |number: Number, what: &str| tally.hold(REFUSED, number, || asked(what));
@@ -123,38 +97,46 @@ fn all_refused(tally: &mut Tally, kind: u32, date: u32, good: u32) {
     });
 }
 
-/// Every day of a kind at some years, by each operation that the kind lacks. That of the ISO date alone
-/// is asked where texts are written.
+/// Every day of a kind at some years, declared and guessed, by each operation that the kind lacks. That of the
+/// ISO date alone is asked where texts are written.
 fn lacking<K: Coded>(tally: &mut Tally) {
+    for year in years(Extent::Quick, OPERATIONS_STEP) {
+        for (month, day, hour) in original::days::<K>() {
+            let date = original::bits(Fields::new(year, month, day, hour));
+            lacking_of::<K>(tally, date);
+            lacking_of::<K>(tally, date | GUESSED);
+        }
+    }
+}
+
+/// The mark of a guessed date.
+const GUESSED: u32 = 1;
+
+fn lacking_of<K: Coded>(tally: &mut Tally, date: u32) {
     let (writes_numbers, counts_days) = (
         matches!(K::LETTER, 'D' | 'H'),
         matches!(K::LETTER, 'D' | 'E' | 'V'),
     );
-    for year in years(Extent::Quick, OPERATIONS_STEP) {
-        for (month, day, hour) in original::days::<K>() {
-            let date = original::bits(Fields::new(year, month, day, hour));
-            let asked = || format!("{} {date:#010x}: an operation it lacks", K::LETTER);
-            let mut date_refused = |answer: Answer| {
-                tally.met(Listed::NoOperation);
-                tally.hold(refused(4), answer, asked);
-            };
-            if K::LETTER != 'E' {
-                date_refused(ffi::pq_start_of_day(K::CODE, date));
-            }
-            if !counts_days {
-                date_refused(ffi::pq_add_days(K::CODE, date, 1));
-            }
-            let mut number_refused = |number: Number| {
-                tally.met(Listed::NoOperation);
-                tally.hold(REFUSED, number, asked);
-            };
-            if !counts_days {
-                number_refused(ffi::pq_days_until(K::CODE, date, date));
-            }
-            if !writes_numbers {
-                number_refused(ffi::pq_to_number(K::CODE, date));
-            }
-        }
+    let asked = || format!("{} {date:#010x}: an operation it lacks", K::LETTER);
+    let mut date_refused = |answer: Answer| {
+        tally.met(Listed::NoOperation);
+        tally.hold(refused(4), answer, asked);
+    };
+    if K::LETTER != 'E' {
+        date_refused(ffi::pq_start_of_day(K::CODE, date));
+    }
+    if !counts_days {
+        date_refused(ffi::pq_add_days(K::CODE, date, 1));
+    }
+    let mut number_refused = |number: Number| {
+        tally.met(Listed::NoOperation);
+        tally.hold(REFUSED, number, asked);
+    };
+    if !counts_days {
+        number_refused(ffi::pq_days_until(K::CODE, date, date));
+    }
+    if !writes_numbers {
+        number_refused(ffi::pq_to_number(K::CODE, date));
     }
 }
 

@@ -11,6 +11,7 @@ mod kinds;
 mod random;
 #[macro_use]
 mod original;
+mod book_questions;
 mod books;
 mod counts;
 mod days;
@@ -23,6 +24,7 @@ mod leaves;
 mod lines;
 mod long_numbers;
 mod long_texts;
+mod marked_days;
 mod numbers;
 mod padded;
 mod port;
@@ -34,6 +36,7 @@ mod tables;
 mod tally;
 mod texts;
 mod valid_texts;
+mod words;
 mod years;
 
 use report::{Extent, Report};

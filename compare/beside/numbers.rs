@@ -1,10 +1,11 @@
 //! Every 32-bit number, by the five full decoders and the four guesses.
 
 use crate::kinds::{Decoded, Guessed};
-use crate::original::{Coded, or_refused};
+use crate::original::{Coded, gives, or_refused, refused};
 use crate::report::{Covers, Extent, Report};
 use crate::tally::{Tally, share};
 use pennyquill::ffi::{pq_guess_number, pq_read_number};
+use second_reading::marks::Mark;
 
 /// Numbers of one part.
 const PART: u32 = 1 << 20;
@@ -45,7 +46,11 @@ pub fn run(extent: Extent, report: &mut Report) {
             guesses(tally, number);
         }
     });
-    report.row("32-bit numbers, four guesses", extent.covers_all(), guessed);
+    report.row(
+        "32-bit numbers, four guesses, each with its mark",
+        extent.covers_all(),
+        guessed,
+    );
     if !extent.is_full() {
         near_ends(report);
     }
@@ -88,9 +93,13 @@ fn decoder<K: Coded + Decoded>(tally: &mut Tally, number: i32) {
     tally.hold(right, pq_read_number(K::CODE, number), asked);
 }
 
+/// The original's date, with the mark that a guess sets.
 #[inline]
 fn guess<K: Coded + Guessed>(tally: &mut Tally, number: i32) {
-    let right = or_refused(K::guess(number), 3);
+    let right = match K::guess(number) {
+        Some(date) => gives(date.bits_with(Mark::of_reader(true))),
+        None => refused(3),
+    };
     let asked = || format!("{} g {number}", K::LETTER);
     tally.hold(right, pq_guess_number(K::CODE, number), asked);
 }

@@ -2,6 +2,7 @@
 
 use crate::kinds::{Date, DateHour, Eu5Date, Fields, Kind, RawDate, UniformDate, Vic3Date};
 use pennyquill::ffi::Answer;
+use second_reading::marks::Mark;
 use std::cell::Cell;
 use std::panic::{self, AssertUnwindSafe};
 
@@ -11,6 +12,11 @@ pub trait Coded: Kind + Send + Sync + 'static {
 
     fn bits(self) -> u32 {
         bits(self.fields())
+    }
+
+    /// The same with a mark, which the original lacks, in the two lowest.
+    fn bits_with(self, mark: Mark) -> u32 {
+        self.bits() | u32::from(mark.number())
     }
 }
 

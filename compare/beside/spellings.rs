@@ -1,13 +1,14 @@
-//! Every date of every kind: its dotted and ISO text byte for byte, both read back, its number. The
-//! exchange text is held against the second reading.
+//! Every date of every kind: its dotted and ISO text byte for byte, both read back, its number; and the same
+//! texts and numbers of guessed dates. The exchange text is held against the second reading.
 
 use crate::kinds::{Fields, Written};
 use crate::original::{self, Coded, days, gives, read, refused};
 use crate::port::{self, Writer};
-use crate::report::{Extent, Report};
+use crate::report::{Covers, Extent, Report};
 use crate::tally::{Listed, Tally, share};
-use crate::years::years;
+use crate::years::{some_years, years};
 use pennyquill::ffi::{self, Number};
+use second_reading::marks::Mark;
 use std::fmt::{self, Write};
 
 const QUICK_STEP: i16 = 211;
@@ -19,11 +20,19 @@ const FILL: u8 = 0xA5;
 pub fn run(extent: Extent, report: &mut Report) {
     for_all_six!(texts(extent, report));
     for_each!(numbers(extent, report): Date, DateHour);
+    let years = some_years(extent);
+    for_all_six!(guessed_texts(&years, report));
+    for_each!(guessed_numbers(&years, report): Date, DateHour);
 }
 
 /// Goes through the dates of a kind.
 pub fn each_date<K: Coded>(extent: Extent, ask: impl Fn(&mut Tally, K) + Sync) -> Tally {
-    let (years, days) = (years(extent, QUICK_STEP), days::<K>());
+    each_date_of(&years(extent, QUICK_STEP), ask)
+}
+
+/// Those of these years.
+pub fn each_date_of<K: Coded>(years: &[i16], ask: impl Fn(&mut Tally, K) + Sync) -> Tally {
+    let days = days::<K>();
     share(years.len() as u64, |part, tally| {
         let year = years[part as usize];
         for &(month, day, hour) in &days {
@@ -34,32 +43,51 @@ pub fn each_date<K: Coded>(extent: Extent, ask: impl Fn(&mut Tally, K) + Sync) -
 }
 
 fn texts<K: Coded>(extent: Extent, report: &mut Report) {
-    let tally = each_date::<K>(extent, |tally, date: K| spell(tally, date));
+    let tally = each_date::<K>(extent, |tally, date: K| {
+        let texts = spell(tally, date, Mark::Declared);
+        for text in texts.each_ref().map(Line::text) {
+            let asked = || format!("{} t {}", K::LETTER, text.escape_ascii());
+            tally.hold(read::<K>(text), port::read(K::CODE, text), asked);
+        }
+    });
     let name = format!("{}: every date, its texts and both read back", K::LETTER);
     report.row(&name, extent.covers_all(), tally);
 }
 
-fn spell<K: Coded>(tally: &mut Tally, date: K) {
+/// "all texts disregard it".
+fn guessed_texts<K: Coded>(years: &[i16], report: &mut Report) {
+    let tally = each_date_of::<K>(years, |tally, date: K| {
+        spell(tally, date, Mark::Guessed);
+    });
+    let count = years.len();
+    let name = format!(
+        "{}: guessed dates of {count} years, the same texts",
+        K::LETTER
+    );
+    report.row(&name, Covers::Sample, tally);
+}
+
+/// Gives the dotted text and the ISO text.
+fn spell<K: Coded>(tally: &mut Tally, date: K, mark: Mark) -> [Line; 2] {
     let (dotted, iso) = (Line::of(date.game_fmt()), Line::of(date.iso_8601()));
-    hold_written::<K>(tally, ffi::pq_write_dotted, date, dotted.text());
-    hold_written::<K>(tally, ffi::pq_write_iso, date, iso.text());
-    let exchange = exchange(date);
-    hold_written::<K>(tally, ffi::pq_write_exchange, date, exchange.as_bytes());
+    let mut hold =
+        |writer: Writer, text: &[u8]| hold_written::<K>(tally, writer, (date, mark), text);
+    hold(ffi::pq_write_dotted, dotted.text());
+    hold(ffi::pq_write_iso, iso.text());
+    hold(ffi::pq_write_exchange, exchange(date).as_bytes());
     match date.third_text() {
-        Some(text) => hold_written::<K>(tally, ffi::pq_write_iso_date, date, text.as_bytes()),
+        Some(text) => hold(ffi::pq_write_iso_date, text.as_bytes()),
         None => {
             tally.met(Listed::NoOperation);
-            hold_room::<K>(tally, ffi::pq_write_iso_date, date, (refused(4), b""), ROOM);
+            let none = (refused(4), b"".as_slice());
+            hold_room::<K>(tally, ffi::pq_write_iso_date, (date, mark), none, ROOM);
         }
     }
-    for text in [dotted.text(), iso.text()] {
-        let asked = || format!("{} t {}", K::LETTER, text.escape_ascii());
-        tally.hold(read::<K>(text), port::read(K::CODE, text), asked);
-    }
+    [dotted, iso]
 }
 
 /// In a buffer longer than the text, in one as long, and in one a byte shorter.
-fn hold_written<K: Coded>(tally: &mut Tally, writer: Writer, date: K, text: &[u8]) {
+fn hold_written<K: Coded>(tally: &mut Tally, writer: Writer, date: (K, Mark), text: &[u8]) {
     let given = (gives(text.len() as u32), text);
     hold_room::<K>(tally, writer, date, given, ROOM);
     hold_room::<K>(tally, writer, date, given, text.len());
@@ -70,14 +98,15 @@ fn hold_written<K: Coded>(tally: &mut Tally, writer: Writer, date: K, text: &[u8
 fn hold_room<K: Coded>(
     tally: &mut Tally,
     writer: Writer,
-    date: K,
+    (date, mark): (K, Mark),
     (answer, text): (ffi::Answer, &[u8]),
     room: usize,
 ) {
     let (mut right, mut out) = ([FILL; ROOM], [FILL; ROOM]);
     right[..text.len()].copy_from_slice(text);
-    let port = port::write(writer, K::CODE, date.bits(), &mut out[..room]);
-    let asked = || format!("{} {} written, room {room}", K::LETTER, date.fields());
+    let bits = date.bits_with(mark);
+    let port = port::write(writer, K::CODE, bits, &mut out[..room]);
+    let asked = || format!("{} {bits:#010x} written, room {room}", K::LETTER);
     tally.hold((answer, right), (port, out), asked);
 }
 
@@ -104,19 +133,32 @@ fn exchange<K: Coded>(date: K) -> String {
 
 /// The dates of D and H as numbers; those of other kinds have none.
 fn numbers<K: Coded + Written>(extent: Extent, report: &mut Report) {
-    let tally = each_date::<K>(extent, |tally, date: K| {
-        let right = Number {
-            refusal: 0,
-            value: date.number(),
-        };
-        let asked = || format!("{} {} as a number", K::LETTER, date.fields());
-        tally.hold(right, ffi::pq_to_number(K::CODE, date.bits()), asked);
-    });
+    let tally = each_date::<K>(extent, |tally, date: K| number(tally, date, Mark::Declared));
     report.row(
         &format!("{}: every date as a number", K::LETTER),
         extent.covers_all(),
         tally,
     );
+}
+
+fn guessed_numbers<K: Coded + Written>(years: &[i16], report: &mut Report) {
+    let tally = each_date_of::<K>(years, |tally, date: K| number(tally, date, Mark::Guessed));
+    let count = years.len();
+    let name = format!(
+        "{}: guessed dates of {count} years, the same number",
+        K::LETTER
+    );
+    report.row(&name, Covers::Sample, tally);
+}
+
+fn number<K: Coded + Written>(tally: &mut Tally, date: K, mark: Mark) {
+    let right = Number {
+        refusal: 0,
+        value: date.number(),
+    };
+    let bits = date.bits_with(mark);
+    let asked = || format!("{} {bits:#010x} as a number", K::LETTER);
+    tally.hold(right, ffi::pq_to_number(K::CODE, bits), asked);
 }
 
 /// What the original writes, without an allocation.

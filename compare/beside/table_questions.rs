@@ -107,7 +107,7 @@ fn looked(buffer: &[u8], field: u32, game: u32, number: i32) -> Lookup {
         }) => Lookup {
             refusal: 0,
             kind: number_of(kind).into(),
-            value: u32::from(date.year as u16) << 16 | u32::from(date.word()),
+            value: u32::from(date.fields.year as u16) << 16 | u32::from(date.word()),
             guessed: is_guessed.into(),
         },
         Err(refusal) => Lookup {

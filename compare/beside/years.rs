@@ -15,3 +15,8 @@ pub fn years(extent: Extent, quick_step: i16) -> Vec<i16> {
     let is_taken = |&year: &i16| extent.is_full() || is_sampled(year);
     (i16::MIN..=i16::MAX).filter(is_taken).collect()
 }
+
+/// Of the full form too only some: the edges, and in the full form every 499th.
+pub fn some_years(extent: Extent) -> Vec<i16> {
+    years(Extent::Quick, extent.pick(i16::MAX, 499))
+}

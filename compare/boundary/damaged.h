@@ -28,7 +28,7 @@ int is_kind(uint32_t kind);
 uint32_t some_kind(void);
 int32_t some_number(void);
 
-/* What every answer has: a number of the table, 4 where the kind is none, and 0 beside a refusal but 11. */
+/* What every answer has: a number of the table, 20 of an append alone; 4 where the kind is none; 0 beside a refusal but 11. */
 void told(const char *what, uint32_t kind, uint32_t number, uint32_t refusal, uint32_t value);
 
 /* ---- texts.c */

@@ -33,6 +33,9 @@ static uint32_t date(int year, uint32_t month, uint32_t day, uint32_t hour) {
     return (uint32_t)(uint16_t)year << 16 | month << 12 | day << 7 | hour << 2;
 }
 
+/* The same date with the mark of a guess. */
+static uint32_t guessed(uint32_t date) { return date | 1; }
+
 static void gives(const char *what, pq_answer got, uint32_t refusal, uint32_t value) {
     tell(what, got.refusal == refusal && got.value == value);
 }
@@ -47,7 +50,7 @@ static void dates(void) {
     gives("pq_read_text, a byte more", pq_read_text(D, text, 11), 2, 0);
     gives("pq_read_number", pq_read_number(H, 43808760), 0, date(1, 1, 1, 1));
     gives("pq_read_number, none", pq_read_number(D, -8736), 3, 0);
-    gives("pq_guess_number", pq_guess_number(D, 56456976), 0, date(1444, 11, 11, 0));
+    gives("pq_guess_number", pq_guess_number(D, 56456976), 0, guessed(date(1444, 11, 11, 0)));
     gives("pq_guess_number, none", pq_guess_number(D, 1444), 3, 0);
     gives("pq_from_fields", pq_from_fields(R, -1444, 11, 12, 13), 0, date(-1444, 11, 12, 13));
     gives("pq_add_days", pq_add_days(V, date(1836, 1, 2, 18), 31), 0, date(1836, 2, 2, 18));
@@ -132,6 +135,57 @@ static void texts(void) {
     writes("pq_write_exchange, 9999", pq_write_exchange, E, date(9999, 2, 3, 22), "9999-02-03T19");
 }
 
+/* A date with an hour, so that D has it not, and the date an hour before it. */
+static void marks(void) {
+    uint32_t late = date(1337, 4, 1, 22), before = date(1337, 4, 1, 21);
+    gives("pq_without_mark", pq_without_mark(E, guessed(late)), 0, late);
+    gives("pq_without_mark, none", pq_without_mark(E, late), 0, late);
+    gives("pq_without_mark, mark 2", pq_without_mark(E, late | 2), 4, 0);
+    gives("pq_without_mark, mark 3", pq_without_mark(E, late | 3), 4, 0);
+    gives("pq_without_mark, not of the kind", pq_without_mark(D, guessed(late)), 4, 0);
+    gives("pq_without_mark, a kind that is none", pq_without_mark(7, late), 4, 0);
+    gives("pq_add_days, guessed", pq_add_days(V, guessed(date(1836, 1, 2, 18)), 31), 0, guessed(date(1836, 2, 2, 18)));
+    gives("pq_add_days, mark 2", pq_add_days(V, date(1836, 1, 2, 18) | 2, 31), 4, 0);
+    gives("pq_add_days, mark 3 before 5", pq_add_days(V, date(1836, 1, 2, 18) | 3, INT32_MAX), 4, 0);
+    gives("pq_start_of_day, guessed", pq_start_of_day(E, guessed(late)), 0, guessed(date(1337, 4, 1, 0)));
+    gives("pq_start_of_day, mark 2", pq_start_of_day(E, late | 2), 4, 0);
+    counts("pq_order, two marks", pq_order(E, guessed(late), late), 0, 0);
+    counts("pq_order, two marks the other way", pq_order(E, late, guessed(late)), 0, 0);
+    counts("pq_order, a guessed date before", pq_order(E, guessed(before), late), 0, -1);
+    counts("pq_order, mark 2", pq_order(E, late, late | 2), 4, 0);
+    counts("pq_to_number, guessed", pq_to_number(H, guessed(date(1, 1, 1, 24))), 0, 43808783);
+    counts("pq_days_until, guessed", pq_days_until(E, guessed(late), date(1337, 4, 3, 0)), 0, 2);
+    counts("pq_days_until, mark 3", pq_days_until(E, late, date(1337, 4, 3, 0) | 3), 4, 0);
+    writes("pq_write_dotted, guessed", pq_write_dotted, E, guessed(late), "1337.4.1.22");
+    writes("pq_write_iso, guessed", pq_write_iso, E, guessed(late), "1337-04-01T19");
+    writes("pq_write_iso_date, guessed", pq_write_iso_date, E, guessed(late), "1337-04-01");
+    writes("pq_write_exchange, guessed", pq_write_exchange, E, guessed(late), "1337-04-01T19");
+}
+
+/* One record, and room for one more; 20 comes last. */
+static void marked_books(void) {
+    const uint8_t one[] = {0, 0, 0, 6, 1, 2, 0x05, 0xA4, 0xB5, 0x80, '#', '#', '#', '#', '#'};
+    uint8_t book[sizeof one];
+    uint32_t day = date(1836, 1, 2, 18);
+    memcpy(book, one, sizeof book);
+    gives("pq_book_append, guessed", pq_book_append(book, sizeof book, V, guessed(day)), 20, 0);
+    gives("pq_book_append, guessed and no room", pq_book_append(book, sizeof book - 1, V, guessed(day)), 12, 0);
+    gives("pq_book_append, mark 2 and no room", pq_book_append(book, sizeof book - 1, V, day | 2), 4, 0);
+    gives("pq_book_append, mark 3", pq_book_append(book, sizeof book, V, day | 3), 4, 0);
+    tell("the bytes of a refused append", memcmp(book, one, sizeof book) == 0);
+    book[4] = 2;
+    gives("pq_book_append, guessed and another version", pq_book_append(book, sizeof book, V, guessed(day)), 10, 0);
+    book[4] = 1;
+    book[9] |= 1;
+    gives("pq_book_check, a mark", pq_book_check(book, sizeof book), 11, 0);
+    gives("pq_book_append, guessed and a mark in the book", pq_book_append(book, sizeof book, V, guessed(day)), 11, 0);
+    book[9] &= 0xFC;
+    gives("pq_book_append, its mark taken off", pq_book_append(book, sizeof book, V, day), 0, 1);
+    book[14] |= 3;
+    pq_record bad = pq_book_record(book, sizeof book, 0);
+    tell("pq_book_record, a mark in the second", bad.refusal == 11 && bad.kind == 0 && bad.value == 1 && bad.field == 0);
+}
+
 static void books(void) {
     uint8_t book[16];
     memset(book, '#', sizeof book);
@@ -197,7 +251,8 @@ static void entries(void) {
 static void lookups(void) {
     size_t length = sizeof three;
     looks("pq_table_lookup", pq_table_lookup(three, length, 500, E, 56456976), 0, D, date(1444, 11, 11, 0), 0);
-    looks("pq_table_lookup, guessed", pq_table_lookup(three, length, 501, E, 56456978), 0, E, date(1444, 11, 11, 2), 1);
+    uint32_t guess = guessed(date(1444, 11, 11, 2));
+    looks("pq_table_lookup, guessed", pq_table_lookup(three, length, 501, E, 56456978), 0, E, guess, 1);
     looks("pq_table_lookup, no guess", pq_table_lookup(three, length, 3, E, 56456978), 3, 0, 0, 0);
     looks("pq_table_lookup, in full", pq_table_lookup(three, length, 258, D, 1444), 0, R, date(-5000, 3, 2, 4), 0);
     looks("pq_table_lookup, not in full", pq_table_lookup(three, length, 259, D, 1444), 3, 0, 0, 0);
@@ -214,7 +269,7 @@ static void lookups_at_once(void) {
     size_t length = sizeof three;
     gives(what, pq_table_lookup_all(three, length, E, fields, 4, numbers, 3, (uint32_t *)out, 16), 0, 3);
     looks(what, out[0], 0, D, date(1444, 11, 11, 0), 0);
-    looks(what, out[1], 0, E, date(1444, 11, 11, 2), 1);
+    looks(what, out[1], 0, E, guessed(date(1444, 11, 11, 2)), 1);
     looks(what, out[2], 3, 0, 0, 0);
     looks("pq_table_lookup_all, what is not asked", out[3], 7, 7, 7, 7);
     what = "pq_table_lookup_all, the shortest decides";
@@ -238,7 +293,9 @@ int main(void) {
     iso_texts();
     numbers();
     texts();
+    marks();
     books();
+    marked_books();
     tables();
     printf("%d answers right, %d wrong\n", right, wrong);
     return wrong > 0;

@@ -117,6 +117,8 @@ static pq_lookup lookup(const checked *table, const uint8_t *copy, uint32_t fiel
         fault("a lookup's date", game, field);
     if (found.refusal == 0 && (found.guessed != (kind == 0) || found.kind != (kind != 0 ? kind : game)))
         fault("a lookup's way", game, field);
+    if (found.refusal == 0 && found.value % 4 != found.guessed)
+        fault("a lookup's mark", game, field);
     return found;
 }
 

@@ -1,6 +1,7 @@
 //! The rows of one file, each a question and its answer, and how inputs and answers are written in them.
 
-use crate::kinds::Kind;
+use crate::kinds::{Fields, Kind};
+use crate::marks::{GUESSED, told};
 use crate::random::Random;
 use std::collections::BTreeSet;
 use std::fmt::Display;
@@ -87,10 +88,19 @@ impl Answers {
     }
 }
 
-/// `year month day hour`, or the refusal.
+/// `year month day hour`, or the refusal. "Guess readers set 1, all others 0".
 pub fn date_or_refused<K: Kind>(answer: Option<K>, refusal: u8) -> String {
+    told_or_refused(answer.map(K::fields), 0, refusal)
+}
+
+/// `year month day hour guessed`, or the refusal.
+pub fn guess_or_refused<K: Kind>(answer: Option<K>, refusal: u8) -> String {
+    told_or_refused(answer.map(K::fields), GUESSED, refusal)
+}
+
+fn told_or_refused(answer: Option<Fields>, mark: u8, refusal: u8) -> String {
     match answer {
-        Some(date) => date.fields().to_string(),
+        Some(fields) => told(fields, mark),
         None => format!("refused {refusal}"),
     }
 }

@@ -3,7 +3,7 @@
 use crate::book_script::{D_RECORD, GREATEST_LENGTH, HEAD, MOST_RECORDS, RECORD, Script};
 use crate::book_script::{WORD, YEAR, word};
 
-/// Words at both sides of every bound on month, day, hour and the low bits.
+/// Words at both sides of every bound on month, day and hour, and words with each mark.
 const WORDS: [u16; 30] = [
     word(0, 1, 0),
     word(1, 1, 0),
@@ -110,7 +110,7 @@ pub fn recorded_words(script: &mut Script) {
     }
 }
 
-fn one_record(script: &mut Script, kind: u8, word: u16) {
+pub fn one_record(script: &mut Script, kind: u8, word: u16) {
     let [year_high, year_low] = YEAR.to_be_bytes();
     let [high, low] = word.to_be_bytes();
     script.set_length(6);
@@ -149,7 +149,7 @@ pub fn dates_of_no_kind(script: &mut Script) {
         ('E', word(11, 11, 23)),
         ('E', word(11, 11, 24)),
         ('V', word(11, 11, 1)),
-        ('V', WORD + 1),
+        ('V', WORD + 2),
     ];
     script.remark(
         "dates of no kind: no book, a good one, length 0, odd length, version 2, bad record",

@@ -1,10 +1,10 @@
 //! The part of book.script that is about books, its first. The second reading answers it.
 
-use crate::book_damage;
 use crate::book_script::{GREATEST_LENGTH, HEAD, MOST_RECORDS, RECORD, Script, YEAR, word};
 use crate::dates::{any_date, landmarks};
 use crate::kinds::{Date, DateHour, Eu5Date, Fields, Kind, RawDate, UniformDate, Vic3Date};
 use crate::random::Random;
+use crate::{book_damage, book_marks};
 
 const SAMPLES_PER_KIND: usize = 10;
 const MIXED_RECORDS: usize = 40;
@@ -27,6 +27,11 @@ pub fn all(stream: u64) -> String {
     full_books(&mut script);
     book_damage::bad_records(&mut script);
     book_damage::dates_of_no_kind(&mut script);
+    book_marks::every_kind(&mut script);
+    book_marks::order_of_refusals(&mut script);
+    book_marks::full_books(&mut script);
+    book_marks::marked_records(&mut script);
+    book_marks::marked_records_of_full_books(&mut script);
     script.text
 }
 

@@ -7,6 +7,7 @@ mod kinds;
 mod additions;
 mod answers;
 mod book_damage;
+mod book_marks;
 mod book_scenes;
 mod book_script;
 mod dates;
@@ -18,6 +19,7 @@ mod julian;
 mod leading;
 mod listing_lines;
 mod listings;
+mod marks;
 mod numbers;
 mod orders;
 mod padded;
@@ -56,6 +58,7 @@ const LISTINGS_STREAM: u64 = FILES.len() as u64;
 const BOOK_STREAM: u64 = LISTINGS_STREAM + 1;
 const TABLE_STREAM: u64 = BOOK_STREAM + 1;
 const ISO_STREAM: u64 = TABLE_STREAM + 1;
+const UNMARKED_STREAM: u64 = ISO_STREAM + 1;
 
 fn main() {
     let folder = std::env::args_os().nth(1).expect("usage: generate FOLDER");
@@ -72,8 +75,14 @@ fn main() {
     let script = book_scenes::all(BOOK_STREAM) + &table_scenes::all(TABLE_STREAM);
     fs::write(folder.join("book.script"), &script).expect("the file can be written");
     println!("book.script: {} lines", script.lines().count());
-    let mut isos = Answers::new(ISO_STREAM);
-    iso_texts::ask(&mut isos);
-    let (edges, samples) = isos.write_questions(folder, "isos");
-    println!("isos.questions: {edges} edges, {samples} samples");
+    write_questions(folder, "isos", ISO_STREAM, iso_texts::ask);
+    write_questions(folder, "unmarked", UNMARKED_STREAM, marks::ask);
+}
+
+/// Those that the second reading answers.
+fn write_questions(folder: &Path, name: &str, stream: u64, ask: fn(&mut Answers)) {
+    let mut questions = Answers::new(stream);
+    ask(&mut questions);
+    let (edges, samples) = questions.write_questions(folder, name);
+    println!("{name}.questions: {edges} edges, {samples} samples");
 }

@@ -1,6 +1,6 @@
-//! numbers.txt: `K b N DATE` (full decoder) and `K g N DATE` (guess), or `refused 3` for the date.
+//! numbers.txt: `K b N DATE` (full decoder) and `K g N DATE guessed` (guess), or `refused 3` for the date.
 
-use crate::answers::{Answers, Row, date_or_refused};
+use crate::answers::{Answers, Row, date_or_refused, guess_or_refused};
 use crate::dates::{YEARS, any_year};
 use crate::kinds::{Decoded, Guessed};
 use crate::random::Random;
@@ -30,7 +30,7 @@ fn ask_decoder<K: Decoded>(answers: &mut Answers) {
 
 fn ask_guess<K: Guessed>(answers: &mut Answers) {
     ask_way(answers, |number| {
-        let answer = date_or_refused(K::guess(number), 3);
+        let answer = guess_or_refused(K::guess(number), 3);
         Row::new(format!("{} g {number}", K::LETTER), answer)
     });
 }

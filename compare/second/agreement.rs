@@ -1,7 +1,7 @@
 //! Where this reading and the original both say which dates a kind has, or what the ISO text of a
 //! date is, they say the same; and this reading reads that text back.
 
-use crate::kinds::{Fields, Kind};
+use crate::kinds::{Fields, Kind, all_of_year};
 use crate::{exchange, iso};
 use eu5save::Eu5Date;
 use jomini::common::{Date, DateHour, PdsDate, RawDate, UniformDate};
@@ -32,16 +32,10 @@ fn try_kind<K: PdsDate>(kind: Kind, parse: impl Fn(&str) -> Option<K>) {
     }
 }
 
-/// Every word at this year. The original cannot be asked about one with a low bit set.
-fn all_fields(year: i16) -> impl Iterator<Item = Fields> {
-    let fields = move |word| Fields::from_word(year, word).expect("no low bit is set");
-    (0..=u16::MAX).step_by(4).map(fields)
-}
-
-/// For every word: its fields are a date of the kind exactly when the original reads their text
-/// and writes it again.
+/// For every word without a mark, which the original lacks: its fields are a date of the kind exactly when
+/// the original reads their text and writes it again.
 fn try_words<K: PdsDate>(kind: Kind, parse: &impl Fn(&str) -> Option<K>) {
-    for date in all_fields(YEAR) {
+    for date in all_of_year(YEAR) {
         let text = dotted_text(kind, date);
         let is_same = |read: K| read.game_fmt().to_string() == text;
         let is_original = parse(&text).is_some_and(is_same);
@@ -53,7 +47,7 @@ fn try_words<K: PdsDate>(kind: Kind, parse: &impl Fn(&str) -> Option<K>) {
 /// and "R, D, H, U and V come back as the same date. E comes back with the even component of that
 /// in-game hour".
 fn try_iso_texts<K: PdsDate>(kind: Kind, year: i16, parse: &impl Fn(&str) -> Option<K>) {
-    for date in all_fields(year).filter(|&date| kind.has(date)) {
+    for date in all_of_year(year).filter(|&date| kind.has(date)) {
         let original = parse(&dotted_text(kind, date)).expect("a date of the original");
         let text = original.iso_8601().to_string();
         assert_eq!(exchange::iso_text(kind, date), text, "{}", kind.letter());

@@ -1,6 +1,8 @@
-//! "The book" of document 01: four operations over a buffer.
+//! "The book" of document 01: four operations over a buffer; and what request #106 of document 02 says of
+//! marks in one.
 
-use crate::kinds::{Fields, KINDS, Kind};
+use crate::kinds::{KINDS, Kind};
+use crate::marks::{self, Mark, Marked};
 
 /// "At most 4,096 records."
 const MOST_RECORDS: usize = 4096;
@@ -25,7 +27,8 @@ const fn refused<T>(number: u8) -> Result<T, Refusal> {
     Err(Refusal::Number(number))
 }
 
-/// A kind and a date as it is handed in or recorded: a year and a packed word, of a date or not.
+/// A kind and a date as it is handed in or recorded: a year and a packed word, of a date or not, with its
+/// mark.
 #[derive(Clone, Copy, PartialEq, Eq)]
 pub struct Record {
     pub kind: Kind,
@@ -34,8 +37,13 @@ pub struct Record {
 }
 
 impl Record {
-    fn is_date(self) -> bool {
-        Fields::from_word(self.year, self.word).is_some_and(|date| self.kind.has(date))
+    fn handed_in(self) -> Option<Marked> {
+        marks::handed_in(self.kind, self.year, self.word)
+    }
+
+    /// "11 for any mark in one": a record has the mark 0.
+    fn is_recorded(self) -> bool {
+        self.handed_in().is_some() && self.word % 4 == 0
     }
 
     /// "records of five bytes": kind, "year (two's complement, big-endian), packed word
@@ -56,7 +64,7 @@ impl Record {
             year: i16::from_be_bytes([bytes[1], bytes[2]]),
             word: u16::from_be_bytes([bytes[3], bytes[4]]),
         };
-        record.is_date().then_some(record)
+        record.is_recorded().then_some(record)
     }
 }
 
@@ -133,15 +141,19 @@ pub fn record(buffer: &[u8], place: usize) -> Result<Record, Refusal> {
 }
 
 /// "append (gives the new record's place)"; 12 for "append: 4,096 records already, or under 5
-/// bytes after the book". "Order: 4 first".
+/// bytes after the book". "Order: 4 first". "20 when a guessed date is appended to a version 1 book, after
+/// 12".
 pub fn append(buffer: &mut [u8], record: Record) -> Result<usize, Refusal> {
-    if !record.is_date() {
+    let Some(date) = record.handed_in() else {
         return refused(4);
-    }
+    };
     let place = check(buffer)?;
     let after_book = buffer.len() - start(place);
     if place == MOST_RECORDS || after_book < RECORD {
         return refused(12);
+    }
+    if date.mark == Mark::Guessed {
+        return refused(20);
     }
     buffer[start(place)..start(place + 1)].copy_from_slice(&record.bytes());
     write_head(buffer, place + 1);

@@ -2,9 +2,10 @@
 //!
 //! Rows of spellings.txt, `K s DATE DOTTED ISO ...`, become rows `K x DATE EXCHANGE`. The ISO text in
 //! the row is the original's; it is held against this reading, which spells both texts alike but
-//! for the year.
+//! for the year. "all texts disregard" the date's mark (#106); a date that is refused there is refused here.
 
 use crate::kinds::{Fields, Kind};
+use crate::marks;
 
 pub fn rows(spellings: &str) -> String {
     spellings
@@ -14,20 +15,24 @@ pub fn rows(spellings: &str) -> String {
 }
 
 fn row(spelling: &str) -> String {
-    let [letter, "s", year, month, day, hour, _dotted, iso, ..] =
+    let [letter, "s", year, month, day, hour, ref texts @ ..] =
         spelling.split(' ').collect::<Vec<_>>()[..]
     else {
         panic!("no row of spellings.txt: {spelling}");
     };
     let kind = Kind::from_letter(letter).expect("a kind's letter");
-    let date = Fields {
-        year: year.parse().expect("a year"),
-        month: month.parse().expect("a month"),
-        day: day.parse().expect("a day"),
-        hour: hour.parse().expect("an hour"),
+    let question = format!("{letter} x {year} {month} {day} {hour}");
+    let Some(date) = marks::of_question(kind, [year, month, day, hour]) else {
+        let is_refused = texts.chunks(2).all(|text| text == ["refused", "4"]);
+        assert!(is_refused, "no date that has texts: {spelling}");
+        return format!("{question} refused 4");
     };
-    assert_eq!(iso_text(kind, date), iso, "the original's ISO text");
-    format!("{letter} x {date} {}", exchange_text(kind, date))
+    assert_eq!(
+        iso_text(kind, date.fields),
+        texts[1],
+        "the original's ISO text"
+    );
+    format!("{question} {}", exchange_text(kind, date.fields))
 }
 
 /// "year zero-filled to width 4, the sign counted (-5 is `-005`)".

@@ -64,17 +64,17 @@ pub struct Fields {
 
 impl Fields {
     /// "Packed beside the year: month × 4096 + day × 128 + hour × 4." What is left of a word after
-    /// these three is nothing: a word with one of its two lowest bits set is that of no fields.
-    pub fn from_word(year: i16, word: u16) -> Option<Fields> {
-        let fields = Fields {
+    /// these three is the mark, which is no field.
+    pub fn from_word(year: i16, word: u16) -> Fields {
+        Fields {
             year,
             month: word / 4096,
             day: word % 4096 / 128,
             hour: word % 128 / 4,
-        };
-        (word % 4 == 0).then_some(fields)
+        }
     }
 
+    /// The packed word with mark 0.
     pub fn word(self) -> u16 {
         self.month * 4096 + self.day * 128 + self.hour * 4
     }
@@ -93,17 +93,21 @@ impl fmt::Display for Fields {
     }
 }
 
+/// Those of every word without a mark, in the order of the words.
+pub fn all_of_year(year: i16) -> impl DoubleEndedIterator<Item = Fields> {
+    (0..=u16::MAX)
+        .step_by(4)
+        .map(move |word| Fields::from_word(year, word))
+}
+
 /// "Each kind owns its least and greatest date": `K least DATE` and `K greatest DATE`, by "Order: year, then packed
-/// word" over every word of the first year and the last.
+/// word" over every word of the first year and the last. Their mark is 0.
 pub fn constants() -> String {
-    let of_year = |kind: Kind, year: i16| {
-        (0..=u16::MAX)
-            .filter_map(move |word| Fields::from_word(year, word).filter(|&date| kind.has(date)))
-    };
+    let of_year = |kind: Kind, year: i16| all_of_year(year).filter(move |&date| kind.has(date));
     let mut rows = String::new();
     for kind in KINDS {
         let least = of_year(kind, i16::MIN).next().expect("a date");
-        let greatest = of_year(kind, i16::MAX).last().expect("a date");
+        let greatest = of_year(kind, i16::MAX).next_back().expect("a date");
         let letter = kind.letter();
         rows += &format!("{letter} least {least}\n{letter} greatest {greatest}\n");
     }

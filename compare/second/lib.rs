@@ -5,5 +5,6 @@ pub mod exchange;
 pub mod iso;
 pub mod kinds;
 pub mod listing;
+pub mod marks;
 pub mod table;
 pub mod text;

@@ -7,6 +7,7 @@
 //!     second listing < input               what `datelist` writes for the input
 //!     second book < script                 the answers of book operations and table operations
 //!     second isos < questions              the ISO texts of the questions with what is read
+//!     second unmarked < questions          the dates of the questions without their marks
 
 mod agreement;
 mod book;
@@ -14,6 +15,8 @@ mod exchange;
 mod iso;
 mod kinds;
 mod listing;
+mod mark_trials;
+mod marks;
 mod page;
 mod script;
 mod table;
@@ -29,12 +32,16 @@ fn main() {
         "constants" => kinds::constants().into_bytes(),
         "example" => {
             agreement::try_kinds();
+            mark_trials::try_all();
             page::example().as_bytes().to_vec()
         }
         "listing" => listing::output(&input()),
         "book" => script::run(&input_text()).into_bytes(),
         "isos" => iso::rows(&input_text()).into_bytes(),
-        _ => panic!("usage: second exchanges | constants | example | listing | book | isos"),
+        "unmarked" => marks::rows(&input_text()).into_bytes(),
+        _ => panic!(
+            "usage: second exchanges | constants | example | listing | book | isos | unmarked"
+        ),
     };
     io::stdout()
         .write_all(&output)

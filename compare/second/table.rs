@@ -3,6 +3,7 @@
 
 use crate::book::number_of;
 use crate::kinds::{Fields, KINDS, Kind};
+use crate::marks::{Mark, Marked};
 use eu5save::Eu5Date;
 use jomini::common::{Date, DateHour, PdsDate, RawDate};
 use vic3save::Vic3Date;
@@ -188,12 +189,13 @@ fn write(buffer: &mut [u8], entries: &[Entry]) {
     }
 }
 
-/// What a lookup gives: a date of a kind, "and says which it was".
-#[derive(Clone, Copy, PartialEq, Eq)]
+/// What a lookup gives: a date of a kind, "and says which it was". By request #106 the date's mark says it
+/// too.
+#[derive(Clone, Copy)]
 pub struct Looked {
     pub is_guessed: bool,
     pub kind: Kind,
-    pub date: Fields,
+    pub date: Marked,
 }
 
 /// "A lookup with a number and a game kind (2, 3, 5 or 6) gives the declared kind's full decoding,
@@ -204,14 +206,19 @@ pub fn lookup(buffer: &[u8], field: u32, game: u32, number: i32) -> Answer<Looke
     let field = field_of(field).ok_or(14)?;
     let game = game_kind(game).ok_or(14)?;
     let declared = place_of(&entries, field).map(|place| entries[place].kind);
-    let (kind, date) = match declared {
+    let is_guessed = declared.is_none();
+    let (kind, fields) = match declared {
         Some(kind) => (kind, decoding(kind, number)),
         None => (game, guess(game, number)),
     };
+    let date = Marked {
+        fields: fields.ok_or(3)?,
+        mark: Mark::of_reader(is_guessed),
+    };
     Ok(Looked {
-        is_guessed: declared.is_none(),
+        is_guessed,
         kind,
-        date: date.ok_or(3)?,
+        date,
     })
 }
 

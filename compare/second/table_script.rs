@@ -36,7 +36,8 @@ fn told_looked(looked: Looked) -> String {
         date,
     } = looked;
     let way = if is_guessed { "guessed" } else { "declared" };
-    format!("{way} {} {} {}", kind.letter(), date.year, date.word())
+    let (year, word) = (date.fields.year, date.word());
+    format!("{way} {} {year} {word}", kind.letter())
 }
 
 /// Three bytes for each of so many numbers from the first on: the number, big-endian, and the code.

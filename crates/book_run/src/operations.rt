@@ -81,5 +81,6 @@ fn appended(answer: Appended) -> Told
         Appended::BadVersion => Told::Refused(refusals::BAD_VERSION),
         Appended::BadRecord(place) => Told::BadRecord(place),
         Appended::NoRoom => Told::Refused(refusals::NO_ROOM),
+        Appended::GuessedDate => Told::Refused(refusals::GUESSED_DATE),
     }
 }

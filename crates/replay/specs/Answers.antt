@@ -5,7 +5,7 @@ use mathlib.Core.List.{List}
 use lib.IntN.{ℤ, pos}
 use Rattle.rules.specs.Words.{minus}
 use Rattle.rules.specs.Refusals.{Answer, Gives, Refused, _then_}
-use Rattle.rules.specs.Kinds.{Kind, Fields, Stored, fromFields, stored, store, ofDate, ofDates, least, greatest}
+use Rattle.rules.specs.Kinds.{Kind, Fields, Stored, fromFields, stored, storeGuess, store, storeLike, ofDate, ofDates, withoutMark, least, greatest}
 use Rattle.rules.specs.Numbers.{readsNumbers, readNumber, guesses, guessNumber, writesNumbers, writeNumber}
 use Rattle.rules.specs.Days.{countsDays, addDays, difference, Order, Before, Same, After, order}
 use Rattle.rules.specs.Text.{readText}
@@ -50,7 +50,7 @@ abbrev pub numberAnswer : Kind → ℤ → Answer Value
 numberAnswer k n = had (readsNumbers k) (dated (store (readNumber k n)))
 
 abbrev pub guessAnswer : Kind → ℤ → Answer Value
-guessAnswer k n = had (guesses k) (dated (store (guessNumber k n)))
+guessAnswer k n = had (guesses k) (dated (storeGuess (guessNumber k n)))
 
 abbrev pub fieldsAnswer : Kind → Fields → Answer Value
 fieldsAnswer k f = dated (store (fromFields k f))
@@ -58,7 +58,7 @@ fieldsAnswer k f = dated (store (fromFields k f))
 -- ---- of dates handed in
 
 abbrev pub sumAnswer : Kind → Packed → ℤ → Answer Value
-sumAnswer k d days = had (countsDays k) (dated (store (ofDate k (bitsOf d) (λ f. addDays k f days))))
+sumAnswer k d days = had (countsDays k) (dated (storeLike (bitsOf d) (ofDate k (bitsOf d) (λ f. addDays k f days))))
 
 abbrev pub differenceAnswer : Kind → Packed → Packed → Answer Value
 differenceAnswer k d e = had (countsDays k) (counted (ofDates k (bitsOf d) (bitsOf e) (λ f g. difference k f g)))
@@ -77,6 +77,10 @@ ordering a = a then λ o. Gives (Counted (orderNumber o))
 
 abbrev pub orderAnswer : Kind → Packed → Packed → Answer Value
 orderAnswer k d e = ordering (ofDates k (bitsOf d) (bitsOf e) (λ f g. Gives (order f g)))
+
+-- a date without its mark
+abbrev pub unmarkedAnswer : Kind → Packed → Answer Value
+unmarkedAnswer k d = dated (withoutMark k (bitsOf d))
 
 -- ---- the constants
 

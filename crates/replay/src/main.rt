@@ -9,6 +9,7 @@ mod answers;
 mod dates;
 mod days;
 mod leaves;
+mod marks;
 mod parts;
 mod questions;
 mod quoted;

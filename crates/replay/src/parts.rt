@@ -2,7 +2,6 @@
 // do, so that a row is read to its end, and tested once.
 ghost use Prim.Native.Nat.{_≤_};
 use kinds::ExpandedRawDate;
-use kinds::NO_MARK;
 use kinds::Packed;
 use rows::NOWHERE;
 use rows::Number;
@@ -68,7 +67,21 @@ pub(crate) fn fields(row: &[u8], at: usize) -> ReadFields {
     }
 }
 
-// `year month day hour`, as a date that is handed in, and the place after it.
+// The mark of a date that is handed in, behind a slash; none is 0.
+fn mark(row: &[u8], at: usize) -> Number
+    ensures { λ r. ⌜ r .up ≤ 3 ⌝ }
+{
+    if rows::byte(row, at) == b'/' {
+        return at_most(row, rows::after(row, at, b'/'), 3);
+    }
+    Number {
+        up: 0,
+        dn: 0,
+        next: at,
+    }
+}
+
+// `year month day hour`, with its mark, as a date that is handed in, and the place after it.
 pub(crate) struct ReadDate {
     pub(crate) date: Packed,
     pub(crate) next: usize,
@@ -79,6 +92,7 @@ pub(crate) fn date(row: &[u8], at: usize) -> ReadDate {
     let month = at_most(row, rows::after(row, year.next, b' '), 15);
     let day = at_most(row, rows::after(row, month.next, b' '), 31);
     let hour = at_most(row, rows::after(row, day.next, b' '), 31);
+    let mark = mark(row, hour.next);
     let fields = ExpandedRawDate {
         year: year.value,
         month: month.up as u8,
@@ -86,8 +100,8 @@ pub(crate) fn date(row: &[u8], at: usize) -> ReadDate {
         hour: hour.up as u8,
     };
     ReadDate {
-        date: kinds::pack(NO_MARK, fields),
-        next: hour.next,
+        date: kinds::pack(mark.up as u16, fields),
+        next: mark.next,
     }
 }
 

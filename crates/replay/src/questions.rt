@@ -5,6 +5,7 @@ use crate::answers::Told;
 use crate::days;
 use crate::leaves;
 use crate::leaves::LeafTold;
+use crate::marks;
 use crate::parts;
 use crate::quoted;
 use kinds::Kind;
@@ -25,6 +26,7 @@ pub(crate) fn of_kind(row: &[u8], kind: Kind) -> Told {
         b'n' => binary(row, kind),
         b'o' => order(row, kind),
         b'l' => least(row, kind),
+        b'w' => without_mark(row, kind),
         _ => Told::Unasked,
     }
 }
@@ -114,6 +116,14 @@ fn order(row: &[u8], kind: Kind) -> Told {
 fn least(row: &[u8], kind: Kind) -> Told {
     if rows::ends(row, rows::after_word(row, 1, b" least")) {
         return answers::least(kind);
+    }
+    Told::Unasked
+}
+
+fn without_mark(row: &[u8], kind: Kind) -> Told {
+    let from = parts::date(row, rows::after_word(row, 1, b" w "));
+    if rows::ends(row, from.next) {
+        return marks::without_mark(kind, from.date);
     }
     Told::Unasked
 }

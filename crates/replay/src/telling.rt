@@ -5,6 +5,7 @@ ghost use Rattle.formatter.specs.Views.{lengthOf};
 use crate::answers::Told;
 use crate::dates;
 use crate::leaves::LeafTold;
+use crate::marks;
 use eu5_date::Eu5Date;
 use formatter::Spelled;
 use kinds::ExpandedRawDate;
@@ -56,12 +57,20 @@ pub(crate) fn unread(row: &[u8]) {
 pub(crate) fn tell(row: &[u8], kind: Kind, told: Told) {
     question(row);
     match told {
-        Told::Date(date) => fields(dates::shown(kind, date)),
+        Told::Date(date) => dated(kind, date),
         Told::Number(n) => signed(sign::halves32(n)),
         Told::Refused(n) => refused(n),
         Told::Unasked => print(b" = unread"),
     }
     print(b"\n");
+}
+
+// Its fields, and that it was guessed, where it was.
+fn dated(kind: Kind, date: Packed) {
+    fields(dates::shown(kind, date));
+    if marks::is_guessed(kind, date) {
+        print(b" guessed");
+    }
 }
 
 fn fields(f: ExpandedRawDate) {

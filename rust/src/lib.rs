@@ -4,7 +4,7 @@
 //! [`Eu5Date`], [`Vic3Date`]. What they share is in [`PdsDate`]; [`book`] keeps dates of all kinds in a buffer, and
 //! [`field_table`] which fields of a save are dates. What they answer comes from the library, whose functions are proved
 //! to meet their contracts, but for what only takes a date's bits apart: the year, month, day and hour as they are
-//! stored, [`PdsDate::is_guessed`], and [`Eu5Date::hour`], are worked out here.
+//! stored, [`PdsDate::is_guessed`], the hash, and [`Eu5Date::hour`] are worked out here.
 //!
 //! An operation that can be refused gives a [`Result`] with a [`Refusal`], which has a number and a sentence: also where
 //! jomini gives an `Option` (`.ok()` gives that one), and where it panics (`add_days`, and `from_ymd_opt` of

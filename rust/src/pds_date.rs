@@ -50,9 +50,10 @@ pub trait PdsDate: Copy + Sized {
     /// assert!(!declared.is_guessed());
     /// assert!(guessed.add_days(20)?.is_guessed());
     ///
-    /// // They are the same date, and have the same texts.
+    /// // They are the same date, in order and in a hash too, and have the same texts.
     /// assert_eq!(guessed, declared);
     /// assert_eq!(guessed.cmp(&declared), std::cmp::Ordering::Equal);
+    /// assert!(std::collections::HashSet::from([guessed]).contains(&declared));
     /// assert_eq!(guessed.game_fmt(), declared.game_fmt());
     /// # Ok::<(), pennyquill::Refusal>(())
     /// ```

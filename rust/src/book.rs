@@ -43,6 +43,25 @@ pub enum Record {
 }
 
 impl Record {
+    /// Whether the date was guessed, as its own [`is_guessed`](PdsDate::is_guessed) tells.
+    ///
+    /// ```
+    /// use pennyquill::{Date, book::Record};
+    /// assert!(Record::D(Date::from_binary_heuristic(56_456_976)?).is_guessed());
+    /// assert!(!Record::D(Date::from_binary(56_456_976)?).is_guessed());
+    /// # Ok::<(), pennyquill::Refusal>(())
+    /// ```
+    pub fn is_guessed(&self) -> bool {
+        match self {
+            Record::R(date) => date.is_guessed(),
+            Record::D(date) => date.is_guessed(),
+            Record::H(date) => date.is_guessed(),
+            Record::U(date) => date.is_guessed(),
+            Record::E(date) => date.is_guessed(),
+            Record::V(date) => date.is_guessed(),
+        }
+    }
+
     pub(crate) fn from_bits(kind: u32, bits: u32) -> Result<Record, Refusal> {
         match kind {
             RawDate::KIND => RawDate::from_bits(bits).map(Record::R),

@@ -130,7 +130,7 @@ pub struct Entry {
 pub enum Looked {
     /// The field is declared: the date of the declared kind, by full decoding.
     Declared(Record),
-    /// The field is not declared: the date of the game's kind, by the guess.
+    /// The field is not declared: the date of the game's kind, by the guess, and marked as guessed.
     Guessed(Record),
 }
 
@@ -206,6 +206,10 @@ pub fn entry(table: &[u8], place: usize) -> Result<Entry, Refusal> {
 /// let date = Record::D(Date::parse("1444.11.11")?);
 /// assert_eq!(ask(500, GameKind::D, 56_456_976), Ok(Looked::Declared(date)));
 /// assert_eq!(ask(501, GameKind::D, 56_456_976), Ok(Looked::Guessed(date)));
+///
+/// // The date that was guessed is marked, so that it says so wherever it goes. It is the same date.
+/// let Ok(Looked::Guessed(found)) = ask(501, GameKind::D, 56_456_976) else { panic!() };
+/// assert!(found.is_guessed() && found == date);
 ///
 /// // One that is a date by full decoding alone: in any other field it stays a number.
 /// let early = Record::D(Date::parse("-5000.1.2")?);

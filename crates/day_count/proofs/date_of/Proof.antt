@@ -22,7 +22,7 @@ small c =
     omega arith
 
 pack-requires : tie.Need-pack-requires
-pack-requires c κs = (c .before .before .pre .4, omega (arith, small c), omega (arith, small c), c .before .before .pre .3)
+pack-requires c κs = (omega (arith, c .before .before .pre .4), omega (arith, small c), omega (arith, small c), c .before .before .pre .3)
 
 returns : tie.Need-returns
 returns c =

@@ -16,7 +16,7 @@ fits : (c : tie.Then1) → let a = c .before .before .before .args in
 fits c = fits-day _ _ _ _ (c .before .before .before .pre .1) (sym (c .before .hour-fits .ensures) ∙ c .if1 .taken)
 
 pack-requires : tie.Need-pack-requires
-pack-requires c κs = let s = small _ _ _ _ (fits c) in (c .before .before .before .pre .0, omega (arith, s), s .1, s .2)
+pack-requires c κs = let s = small _ _ _ _ (fits c) in (omega (arith, c .before .before .before .pre .0), omega (arith, s), s .1, s .2)
 
 returns : tie.Need-returns
 unfolding settled

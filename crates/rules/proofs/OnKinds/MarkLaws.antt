@@ -42,8 +42,8 @@ mark-set mark a e h p =
 pub guess-sets : (a : Answer Fields) (e : Stored) → storeGuess a ≡ Gives e → isGuessed e ≡ true
 guess-sets a e p = rw (mark-set guessedMark a e (lit< tt) p)
 
-pub others-set-none : (a : Answer Fields) (e : Stored) → store a ≡ Gives e → isGuessed e ≡ false
-others-set-none a e p = rw (mark-set noMark a e (lit< tt) p)
+pub others-set-none : (a : Answer Fields) (e : Stored) → store a ≡ Gives e → markOf (e .word) ≡ noMark
+others-set-none a e p = mark-set noMark a e (lit< tt) p
 
 -- "an addition and E's start of day keep the starting date's mark": so does whatever is stored like the date that it starts from
 pub mark-kept : (start : Stored) (a : Answer Fields) (e : Stored) → storeLike start a ≡ Gives e → markOf (e .word) ≡ markOf (start .word)
@@ -75,7 +75,8 @@ answered-of k mark f m a p next = rw (marked-back k mark f m a p)
 
 -- ---- the date without its mark
 
-pub without-mark : (k : Kind) (d e : Stored) → withoutMark k d ≡ Gives e → (handed k e ≡ handed k d) × (isGuessed e ≡ false)
+-- it is the same date, and has the mark 0
+pub without-mark : (k : Kind) (d e : Stored) → withoutMark k d ≡ Gives e → (handed k e ≡ handed k d) × (markOf (e .word) ≡ noMark)
 without-mark k d e p =
     let t = then-met (handed k d) (λ f. Gives (stored f)) e p in
     let same : stored (t .value) ≡ e = cc (t .next) in

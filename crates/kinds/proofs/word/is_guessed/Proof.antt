@@ -6,5 +6,8 @@ use Rattle.rules.specs.Kinds.{guessedMark}
 use Rattle.kinds.proofs.word.is_guessed.Statement.{statement}
 use Rattle.kinds.proofs.word.is_guessed.Tie as tie
 
+returns : tie.Need-returns
+returns c = ap (λ mark. eqb mark guessedMark) (c .mark-of .ensures)
+
 pub is-guessed-spec : {M : Type 1} → statement M
-is-guessed-spec = tie.close (tie.spec (λ c κs. search needs) (λ c. ap (λ mark. eqb mark guessedMark) (c .mark-of .ensures)))
+is-guessed-spec = tie.close (tie.spec (λ c κs. search needs) returns)

@@ -2,3 +2,6 @@ pub mod Entries
 pub mod Laid
 pub mod FieldTable
 pub mod IsoReader
+pub mod Second
+pub mod Both
+pub mod Moves

@@ -3,4 +3,7 @@ pub mod OnEntries
 pub mod OnLaid
 pub mod OnFieldTable
 pub mod OnIsoReader
+pub mod OnSecond
+pub mod OnBoth
+pub mod OnMoves
 pub mod Worked

@@ -2,3 +2,4 @@
 pub mod CutLaws
 pub mod TurnLaws
 pub mod LaidLaws
+pub mod BytesLaws

@@ -1,0 +1,2 @@
+-- Calls that take both versions.
+pub mod BothLaws

@@ -1,11 +1,12 @@
 // A kind as its letter, as `datelist` reads and prints it; a kind as its code and a year as its two's complement, as the book and the
-// C boundary store them.
+// C boundary store them; a date as one number, as it crosses that boundary.
 ghost use mathlib.Core.Path.{_≡_};
 ghost use Rattle.rules.specs.Listing.{letter, kindOfLetter};
 ghost use Rattle.rules.specs.Book.{kindCode, kindOfCode, twosComplement, yearOfTwos};
-ghost use Rattle.kinds.specs.Views.{kindOf};
-ghost use Rattle.codes.specs.Views.{letteredAs, codedAs};
+ghost use Rattle.kinds.specs.Views.{kindOf, bitsOf};
+ghost use Rattle.codes.specs.Views.{letteredAs, codedAs, dateNumber};
 use kinds::Kind;
+use kinds::Packed;
 
 // A kind by its letter.
 pub enum Lettered {
@@ -91,4 +92,13 @@ pub fn year_of_twos(twos: u16) -> i16
         return sign::int16(twos as u64, 0);
     }
     sign::int16(twos as u64, 65536)
+}
+
+// The number of a date, from its bits.
+pub fn date_number(date: Packed) -> u32
+    ensures { λ r. ⌜ r ≡ dateNumber (bitsOf date) ⌝ }
+{
+    let year = twos_complement(date.year) as u32;
+    let word = date.word as u32;
+    year * 65536 + word
 }

@@ -3,6 +3,7 @@ pub mod OnEntries
 pub mod OnLaid
 pub mod OnFieldTable
 pub mod OnIsoReader
+pub mod OnFours
 pub mod OnSecond
 pub mod OnBoth
 pub mod OnMoves

@@ -52,6 +52,14 @@ piece-at (suc n) k s (suc i) d h =
     let e : suc i * k ≡ k + i * k = omega arith in
     rw (e, ← drop-drop (i * k) k s) (piece-at n k (drop k s) i d (omega arith))
 
+-- one piece more, at the end
+pub pieces-last : (n k : ℕ) (s : List ℕ) → pieces (suc n) k s ≡ pieces n k s ++ take k (drop (n * k) s) ∷ []
+unfolding pieces
+pieces-last zero k s = rw zero-mul
+pieces-last (suc n) k s =
+    let e : suc n * k ≡ k + n * k = omega arith in
+    ap (λ (l : List (List ℕ)). take k s ∷ l) (pieces-last n k (drop k s) ∙ rw (drop-drop (n * k) k s, e))
+
 -- ---- where they start at h
 
 module _ (h k n : ℕ) (s : List ℕ) where

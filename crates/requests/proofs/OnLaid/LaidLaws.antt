@@ -1,7 +1,7 @@
 -- Pieces laid out as the bytes of a frame hold them, and a buffer whose pieces and length were written is such bytes. Over the frame.
 -- Assumes nothing.
 use mathlib.Core.Path.{_≡_, refl, sym, ap, _∙_}
-use mathlib.Core.List.{List, [], _∷_, _++_, append-assoc}
+use mathlib.Core.List.{List, [], _∷_, _++_, append-assoc, append-nil}
 use Prim.Native.Nat.{ℕ, zero, suc, _+_, _*_, _^_, _≤_, _<_}
 use native.Mathlib.Nat.{zero-mul, mul-le-mul-right}
 use native.Mathlib.Omega.{arith}
@@ -31,7 +31,7 @@ joined-pieces zero k s = rw (zero-mul k)
 joined-pieces (suc n) k s =
     let e : suc n * k ≡ k + n * k = omega arith in rw (e, take-add k (n * k) s, joined-pieces n k (drop k s))
 
-joined-long : (k : ℕ) (rs : List (List ℕ)) → Each (Long k) rs → length (joined rs) ≡ length rs * k
+pub joined-long : (k : ℕ) (rs : List (List ℕ)) → Each (Long k) rs → length (joined rs) ≡ length rs * k
 unfolding joined
 joined-long k [] p = omega arith
 joined-long k (r ∷ rs) p = let e = joined-long k rs (p .1) in let l = p .0 in rw length-append (omega arith)
@@ -41,6 +41,12 @@ unfolding joined pieces
 pieces-joined k [] y p = refl
 pieces-joined k (r ∷ rs) y p =
     rw (append-assoc r (joined rs) y, take-at r (joined rs ++ y) k (p .0), drop-at r (joined rs ++ y) k (p .0), pieces-joined k rs y (p .1))
+
+-- one more at the end
+pub joined-more : (rs : List (List ℕ)) (r : List ℕ) → joined (rs ++ r ∷ []) ≡ joined rs ++ r
+unfolding joined
+joined-more [] r = append-nil r
+joined-more (x ∷ rs) r = rw (joined-more rs r, append-assoc x (joined rs) r)
 
 -- ---- laid out
 

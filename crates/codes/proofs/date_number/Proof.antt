@@ -1,12 +1,12 @@
--- `pennyquill::crossing::date_number` meets its contract: the year above the word. Assumes nothing.
+-- `codes::date_number` meets its contract: the year above the word. Assumes nothing.
 use native.Mathlib.Omega.{arith}
 use mathlib.Core.Path.{ap, _∙_}
 use mir.Syntax.{w16}
 use Rattle.sign.proofs.Bits.{held}
 use Rattle.rules.specs.Book.{twosComplement}
 use borrow.Author.Needs.{needs}
-use Rattle.pennyquill.proofs.crossing.date_number.Statement.{statement}
-use Rattle.pennyquill.proofs.crossing.date_number.Tie as tie
+use Rattle.codes.proofs.date_number.Statement.{statement}
+use Rattle.codes.proofs.date_number.Tie as tie
 
 returns : tie.Need-returns
 returns c =

@@ -1,0 +1,2 @@
+-- Many answers in one call.
+pub mod FourLaws

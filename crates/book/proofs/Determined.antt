@@ -12,7 +12,8 @@ use Rattle.book.specs.declared.Checked.the-variants as C
 use Rattle.book.specs.declared.Found.{Found}
 use Rattle.book.specs.declared.Found.the-variants as F
 use Rattle.book.specs.declared.Appended.the-variants as A
-use Rattle.book.specs.Views.{Bits, checkedAs, foundAs, appendedAs}
+use Rattle.requests.specs.Second.{FieldEntry}
+use Rattle.book.specs.Views.{checkedAs, foundAs, appendedAs}
 
 -- a value, the two refusals of a book's head, any other refusal, or the place of a bad record
 abbrev backBook : {A T : Type 0} → (A → T) → T → T → (ℕ → T) → (ℕ → T) → Answer A → T
@@ -30,13 +31,13 @@ appended-determined =
     determined appendedAs (backBook A.At A.BadLength A.BadVersion (λ n. cond (eqb n notOfKind) A.NotOfKind (cond (eqb n noRoom) A.NoRoom A.GuessedDate)) A.BadRecord)
     (λ r. elim r [ A.At n ↦ refl | A.NotOfKind ↦ refl | A.BadLength ↦ refl | A.BadVersion ↦ refl | A.BadRecord place ↦ refl | A.NoRoom ↦ refl | A.GuessedDate ↦ refl ])
 
--- ---- a record found, by its kind and its bits
+-- ---- a record found, by its kind, its field number and its bits
 
-abbrev foundBack : Answer Bits → Found
-foundBack = backBook (λ (b : Bits). F.Record (kindBack (b .kind)) (packedOf (b .date))) F.BadLength F.BadVersion (λ n. F.NoRecord) F.BadRecord
+abbrev foundBack : Answer FieldEntry → Found
+foundBack = backBook (λ (b : FieldEntry). F.Record (kindBack (b .kind)) (b .field) (packedOf (b .date))) F.BadLength F.BadVersion (λ n. F.NoRecord) F.BadRecord
 
 found-back : (r : Found) → foundBack (foundAs r) ≡ r
-found-back (F.Record k d) = ap (λ (j : Kind). F.Record j d) (kind-back k)
+found-back (F.Record k field d) = ap (λ (j : Kind). F.Record j field d) (kind-back k)
 found-back F.BadLength = refl
 found-back F.BadVersion = refl
 found-back (F.BadRecord place) = refl

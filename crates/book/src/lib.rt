@@ -12,7 +12,7 @@ use kinds::Kind;
 use kinds::Packed;
 
 pub mod sized;
-mod slots;
+pub mod slots;
 
 // The bytes of a record, the most records and the version byte of version 1.
 pub const SIZE: usize = 5;
@@ -20,6 +20,9 @@ pub const SIZE: usize = 5;
 pub const MOST: usize = 4096;
 
 pub const VERSION: u8 = 1;
+
+// The records of version 1 have no field number, and their dates no mark.
+pub const PLAIN: bool = true;
 
 // The number of records, or why there is no book; of a bad record, the first one's place.
 pub enum Checked {
@@ -29,9 +32,13 @@ pub enum Checked {
     BadRecord(usize),
 }
 
-// The kind and the date of a record, or why there is none.
+// The kind, the field number (0 for none, and in version 1) and the date of a record, or why there is none.
 pub enum Found {
-    Record { kind: Kind, date: Packed },
+    Record {
+        kind: Kind,
+        field: u16,
+        date: Packed,
+    },
     BadLength,
     BadVersion,
     BadRecord(usize),
@@ -53,7 +60,7 @@ pub enum Appended {
 pub fn check(b: &[u8]) -> Checked
     ensures { λ r. ⌜ checkedAs r ≡ check version1 (now (b .entry)) ⌝ }
 {
-    sized::check_of(b, SIZE, MOST, VERSION)
+    sized::check_of(b, SIZE, MOST, VERSION, PLAIN)
 }
 
 // The record at a place of a book that was checked. It looks at the length and at that record alone, so that a walk over a whole
@@ -62,14 +69,14 @@ pub fn entry(b: &[u8], place: usize) -> Found
     requires { ⌜ given (check version1 (now b)) ≡ true ⌝ }
     ensures { λ r. ⌜ foundAs r ≡ inBits (entryAt version1 (now (b .entry)) place) ⌝ }
 {
-    sized::entry_of(b, place, SIZE, MOST, VERSION)
+    sized::entry_of(b, place, SIZE, MOST, VERSION, PLAIN)
 }
 
 // The record at a place of whatever the buffer holds.
 pub fn record_at(b: &[u8], place: usize) -> Found
     ensures { λ r. ⌜ foundAs r ≡ inBits (entryAt version1 (now (b .entry)) place) ⌝ }
 {
-    sized::record_of(b, place, SIZE, MOST, VERSION)
+    sized::record_of(b, place, SIZE, MOST, VERSION, PLAIN)
 }
 
 // Writes an empty book. The bytes after it stay.
@@ -88,7 +95,7 @@ pub fn append(b: &mut [u8], kind: Kind, date: Packed) -> Appended
 {
     if kinds::is_of_kind(kind, date) {
         let piece = slots::bytes_of(kind, date);
-        return sized::append_record(b, &piece, MOST, VERSION);
+        return sized::append_record(b, &piece, MOST, VERSION, PLAIN);
     }
     Appended::NotOfKind
 }

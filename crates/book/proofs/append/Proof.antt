@@ -1,9 +1,12 @@
 -- `book::append` meets its contract: the record of a date of the kind, or refusal 4 before all others. Assumes nothing.
 use mathlib.Core.Path.{_≡_, refl, sym, ap, _∙_}
 use native.Mathlib.Omega.{arith}
+use denote.Ref.{now}
 use lib.ListN.{length}
+use Rattle.rules.specs.Refusals.{Gives}
 use Rattle.rules.specs.Book.{appendAnswer, appendBuffer}
-use Rattle.book.proofs.Laws.{five-long, entry-given, entry-not}
+use Rattle.book.specs.Views.{bytesOf}
+use Rattle.book.proofs.Laws.{five-long, entry-given, entry-not, append-one, buffer-one}
 use borrow.Author.Needs.{needs}
 use Rattle.book.proofs.append.Statement.{statement}
 use Rattle.book.proofs.append.Tie as tie
@@ -17,7 +20,9 @@ append-record-requires c κs =
 returns : tie.Need-returns
 returns c =
     let a = c .before .before .before .before .before .before .before .before .before .args in
-    rw (entry-given (a .kind) (a .date) (sym (c .before .before .before .before .before .before .before .is-of-kind .ensures) ∙ c .before .before .before .before .before .before .if1 .taken))
+    let s = now (a .b) in
+    let entry = Gives (bytesOf (a .kind) (a .date)) in
+    rw (entry-given (a .kind) (a .date) (sym (c .before .before .before .before .before .before .before .is-of-kind .ensures) ∙ c .before .before .before .before .before .before .if1 .taken), ← append-one s entry, ← buffer-one s entry)
     (rw (c .before .before .before .before .before .bytes-of .ensures, five-long (a .kind) (a .date)) at (c .before .before .append-record .ensures))
 
 returns-2 : tie.Need-returns-2

@@ -19,7 +19,7 @@ use Rattle.book.proofs.sized.append_record.Tie as tie
 -- the check counted n, and what that tells
 count : (c : tie.After-known-told) →
     let a = c .before .before .before .before .before .before .before .args in
-    check (bookOf (length (now (a .piece))) (a .most) (a .version)) (now (a .b)) ≡ Gives (c .before .checked .given .0 .0)
+    check (bookOf (length (now (a .piece))) (a .most) (a .version) (a .plain)) (now (a .b)) ≡ Gives (c .before .checked .given .0 .0)
 count c = sym (c .before .before .before .check-of .ensures) ∙ ap checkedAs (c .before .checked .given .1)
 
 tells : (c : tie.After-known-told) →
@@ -29,26 +29,27 @@ tells : (c : tie.After-known-told) →
 tells c =
     let start = c .before .before .before .before .before .before .before in
     let a = start .args in
-    count-tells (length (now (a .piece))) (a .most) (a .version) (start .pre .0) (start .pre .1) (now (a .b)) _ (count c)
+    count-tells (length (now (a .piece))) (a .most) (a .version) (a .plain) (start .pre .0) (start .pre .1) (now (a .b)) _ (count c)
 
 returns : tie.Need-returns
 returns c =
     let a = c .before .before .before .before .before .before .before .before .args in
-    append-full (bookOf (length (now (a .piece))) (a .most) (a .version)) (now (a .piece)) (now (a .b)) _ (count (c .before)) (c .if1 .taken)
+    append-full (bookOf (length (now (a .piece))) (a .most) (a .version) (a .plain)) (now (a .piece)) (now (a .b)) _ (count (c .before)) (c .if1 .taken)
 
 returns-2 : tie.Need-returns-2
 returns-2 c =
     let a = c .before .before .before .before .before .before .before .before .before .args in
     let told = tells (c .before .before) in
-    append-short (bookOf (length (now (a .piece))) (a .most) (a .version)) (now (a .piece)) (now (a .b)) _ (count (c .before .before)) (c .before .if1 .left) (omega arith)
+    append-short (bookOf (length (now (a .piece))) (a .most) (a .version) (a .plain)) (now (a .piece)) (now (a .b)) _ (count (c .before .before)) (c .before .if1 .left) (omega arith)
 
 -- the record is one of the book's exactly where the test says so
 sound : (c : tie.After-sound-at) →
     let a = c .before .before .before .before .before .before .before .before .before .before .args in
-    soundBy (bookOf (length (now (a .piece))) (a .most) (a .version)) (now (a .piece)) ≡ c .sound-at .result
+    soundBy (bookOf (length (now (a .piece))) (a .most) (a .version) (a .plain)) (now (a .piece)) ≡ c .sound-at .result
 sound c =
-    let p = now (c .before .before .before .before .before .before .before .before .before .before .args .piece) in
-    sym (c .sound-at .ensures ∙ ap (soundSized (length p)) (take-length p))
+    let a = c .before .before .before .before .before .before .before .before .before .before .args in
+    let p = now (a .piece) in
+    sym (c .sound-at .ensures ∙ ap (soundSized (length p) (a .plain)) (take-length p))
 
 -- the new length is at most a full book's
 put-length-requires : tie.Need-put-length-requires
@@ -67,7 +68,7 @@ returns-3 c =
     let told = room .before .before in
     let a = told .before .before .before .before .before .before .before .args in
     let facts = tells told in
-    append-writes (bookOf (length (now (a .piece))) (a .most) (a .version)) (now (a .piece)) (now (a .b)) _ (count told) (room .before .if1 .left) (omega arith)
+    append-writes (bookOf (length (now (a .piece))) (a .most) (a .version) (a .plain)) (now (a .piece)) (now (a .b)) _ (count told) (room .before .if1 .left) (omega arith)
     (sound test ∙ c .before .before .before .before .before .before .before .before .if3 .taken) refl (omega arith) (omega arith)
     (c .before .before .before .before .before .before .put .ensures) (c .before .before .put-length .ensures)
 
@@ -77,23 +78,23 @@ returns-4 c =
     let told = room .before .before in
     let a = told .before .before .before .before .before .before .before .args in
     let facts = tells told in
-    append-untaken (bookOf (length (now (a .piece))) (a .most) (a .version)) (now (a .piece)) (now (a .b)) _ (count told) (room .before .if1 .left) (omega arith)
+    append-untaken (bookOf (length (now (a .piece))) (a .most) (a .version) (a .plain)) (now (a .piece)) (now (a .b)) _ (count told) (room .before .if1 .left) (omega arith)
     (sound (c .before) ∙ c .if3 .left)
 
 returns-5 : tie.Need-returns-5
 returns-5 c =
     let a = c .before .before .before .before .before .before .args in
-    append-refused (bookOf (length (now (a .piece))) (a .most) (a .version)) (now (a .piece)) (now (a .b)) _ (sym (c .before .before .check-of .ensures) ∙ ap checkedAs (c .enum-told .given .1))
+    append-refused (bookOf (length (now (a .piece))) (a .most) (a .version) (a .plain)) (now (a .piece)) (now (a .b)) _ (sym (c .before .before .check-of .ensures) ∙ ap checkedAs (c .enum-told .given .1))
 
 returns-6 : tie.Need-returns-6
 returns-6 c =
     let a = c .before .before .before .before .before .before .args in
-    append-refused (bookOf (length (now (a .piece))) (a .most) (a .version)) (now (a .piece)) (now (a .b)) _ (sym (c .before .before .check-of .ensures) ∙ ap checkedAs (c .enum-told2 .given .1))
+    append-refused (bookOf (length (now (a .piece))) (a .most) (a .version) (a .plain)) (now (a .piece)) (now (a .b)) _ (sym (c .before .before .check-of .ensures) ∙ ap checkedAs (c .enum-told2 .given .1))
 
 returns-7 : tie.Need-returns-7
 returns-7 c =
     let a = c .before .before .before .before .before .before .before .args in
-    append-bad (bookOf (length (now (a .piece))) (a .most) (a .version)) (now (a .piece)) (now (a .b)) _ _ (sym (c .before .before .before .check-of .ensures) ∙ ap checkedAs (c .before .checked2 .given .1))
+    append-bad (bookOf (length (now (a .piece))) (a .most) (a .version) (a .plain)) (now (a .piece)) (now (a .b)) _ _ (sym (c .before .before .before .check-of .ensures) ∙ ap checkedAs (c .before .checked2 .given .1))
 
 pub append-record-spec : {M : Type 1} → statement M
 append-record-spec =

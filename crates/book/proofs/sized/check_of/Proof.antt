@@ -28,33 +28,33 @@ first-bad-requires : tie.Need-first-bad-requires
 first-bad-requires c κs =
     let start = c .before .before .before .before .before in
     let a = start .args in
-    let sized = sensible (a .size) (a .most) (a .version) (start .pre .0) (start .pre .1) in
+    let sized = sensible (a .size) (a .most) (a .version) (a .plain) (start .pre .0) (start .pre .1) in
     (start .pre .0, count-fits (frameOf (a .size) (a .most) (a .version)) sized (now (a .b)) _ (count c))
 
 returns : tie.Need-returns
 returns c =
     let start = c .before .before .before .before .before .before .before in
     let a = start .args in
-    let sized = sensible (a .size) (a .most) (a .version) (start .pre .0) (start .pre .1) in
-    sym (one-bad (bookOf (a .size) (a .most) (a .version)) sized (now (a .b)) _ (count (c .before .before)) (c .before .first-bad .ensures) (c .if1 .taken))
+    let sized = sensible (a .size) (a .most) (a .version) (a .plain) (start .pre .0) (start .pre .1) in
+    sym (one-bad (bookOf (a .size) (a .most) (a .version) (a .plain)) sized (now (a .b)) _ (count (c .before .before)) (c .before .first-bad .ensures) (c .if1 .taken))
 
 returns-2 : tie.Need-returns-2
 returns-2 c =
     let start = c .before .before .before .before .before .before .before in
     let a = start .args in
-    let sized = sensible (a .size) (a .most) (a .version) (start .pre .0) (start .pre .1) in
-    sym (all-good (bookOf (a .size) (a .most) (a .version)) sized (now (a .b)) _ (count (c .before .before)) (c .before .first-bad .ensures) (c .if1 .left))
+    let sized = sensible (a .size) (a .most) (a .version) (a .plain) (start .pre .0) (start .pre .1) in
+    sym (all-good (bookOf (a .size) (a .most) (a .version) (a .plain)) sized (now (a .b)) _ (count (c .before .before)) (c .before .first-bad .ensures) (c .if1 .left))
 
 returns-3 : tie.Need-returns-3
 returns-3 c =
     let a = c .before .before .before .before .args in
-    sym (frame-refused (bookOf (a .size) (a .most) (a .version)) (now (a .b)) _
+    sym (frame-refused (bookOf (a .size) (a .most) (a .version) (a .plain)) (now (a .b)) _
     (sym (counted-is (frameOf (a .size) (a .most) (a .version)) (now (a .b))) ∙ sym (c .before .before .pieces-in .ensures) ∙ ap framedAs (c .enum-told .given .1)))
 
 returns-4 : tie.Need-returns-4
 returns-4 c =
     let a = c .before .before .before .before .args in
-    sym (frame-refused (bookOf (a .size) (a .most) (a .version)) (now (a .b)) _
+    sym (frame-refused (bookOf (a .size) (a .most) (a .version) (a .plain)) (now (a .b)) _
     (sym (counted-is (frameOf (a .size) (a .most) (a .version)) (now (a .b))) ∙ sym (c .before .before .pieces-in .ensures) ∙ ap framedAs (c .enum-told2 .given .1)))
 
 pub check-of-spec : {M : Type 1} → statement M

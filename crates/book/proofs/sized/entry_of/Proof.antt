@@ -15,13 +15,13 @@ length-said-requires : tie.Need-length-said-requires
 length-said-requires c κs =
     let a = c .before .args in
     let p = c .before .pre in
-    let h = head-stands (a .size) (a .most) (a .version) (p .0) (p .1) (now (a .b)) (p .2) .0 in omega arith
+    let h = head-stands (a .size) (a .most) (a .version) (a .plain) (p .0) (p .1) (now (a .b)) (p .2) .0 in omega arith
 
 sub-if1 : tie.Need-sub-if1
 sub-if1 c =
     let a = c .before .before .args in
     let p = c .before .before .pre in
-    let h = head-stands (a .size) (a .most) (a .version) (p .0) (p .1) (now (a .b)) (p .2) .1 in omega arith
+    let h = head-stands (a .size) (a .most) (a .version) (a .plain) (p .0) (p .1) (now (a .b)) (p .2) .1 in omega arith
 
 -- the record asked for ends inside
 ends : (c : tie.Then1) → let a = c .before .before .before .args in headSize + a .place * a .size + a .size ≤ length (now (a .b))
@@ -29,7 +29,7 @@ ends c =
     let a = c .before .before .before .args in
     let p = c .before .before .before .pre in
     let l : a .place < (lengthSaid (now (a .b)) - 1) / a .size = rw (c .before .length-said .ensures) at (c .if1 .taken) in
-    inside (a .size) (a .most) (a .version) (p .0) (p .1) (now (a .b)) (p .2) (a .place) l
+    inside (a .size) (a .most) (a .version) (a .plain) (p .0) (p .1) (now (a .b)) (p .2) (a .place) l
 
 slot-at-requires : tie.Need-slot-at-requires
 slot-at-requires c κs = (c .before .before .before .pre .0, ends c)
@@ -42,7 +42,7 @@ returns c =
     let l : a .place < (lengthSaid (now (a .b)) - 1) / a .size =
     rw (c .before .before .before .before .before .length-said .ensures) at (c .before .before .before .before .if1 .taken) in
     ap slotAs (sym (c .before .slot .given .1)) ∙ c .before .before .before .slot-at .ensures
-    ∙ sym (entry-here (a .size) (a .most) (a .version) (p .0) (p .1) (now (a .b)) (p .2) (a .place) l)
+    ∙ sym (entry-here (a .size) (a .most) (a .version) (a .plain) (p .0) (p .1) (now (a .b)) (p .2) (a .place) l)
 
 returns-2 : tie.Need-returns-2
 returns-2 c =
@@ -51,7 +51,7 @@ returns-2 c =
     let p = start .pre in
     let l : a .place < (lengthSaid (now (a .b)) - 1) / a .size =
     rw (c .before .before .before .before .length-said .ensures) at (c .before .before .before .if1 .taken) in
-    absurd (no-bad-one (a .size) (a .most) (a .version) (p .0) (p .1) (now (a .b)) (p .2) (a .place) l
+    absurd (no-bad-one (a .size) (a .most) (a .version) (a .plain) (p .0) (p .1) (now (a .b)) (p .2) (a .place) l
     (ap slotAs (sym (c .enum-told .given .1)) ∙ c .before .before .slot-at .ensures))
 
 returns-3 : tie.Need-returns-3
@@ -60,7 +60,7 @@ returns-3 c =
     let a = start .args in
     let p = start .pre in
     let l : (lengthSaid (now (a .b)) - 1) / a .size ≤ a .place = rw (c .before .length-said .ensures) at (c .if1 .left) in
-    sym (entry-past (a .size) (a .most) (a .version) (p .0) (p .1) (now (a .b)) (p .2) (a .place) l)
+    sym (entry-past (a .size) (a .most) (a .version) (a .plain) (p .0) (p .1) (now (a .b)) (p .2) (a .place) l)
 
 pub entry-of-spec : {M : Type 1} → statement M
 entry-of-spec =

@@ -11,10 +11,10 @@ use Rattle.book.proofs.sized.first_bad.Statement.{statement}
 use Rattle.book.proofs.sized.first_bad.Tie as tie
 
 abbrev Inv-loop : tie.InvT-loop
-Inv-loop b n size i₀ i = (i ≤ n) × (leftFrom (soundSized size) size headSize b n i ≡ firstBad (soundSized size) (pieces n size (drop headSize b)))
+Inv-loop b n size plain i₀ i = (i ≤ n) × (leftFrom (soundSized size plain) size headSize b n i ≡ firstBad (soundSized size plain) (pieces n size (drop headSize b)))
 
 abbrev μ-loop : tie.MeasureT-loop
-μ-loop b n size i₀ i = n - i
+μ-loop b n size plain i₀ i = n - i
 
 -- record i ends where the n records end, or before
 ends : (c : tie.In-loop Inv-loop μ-loop) → (c .before .loop .i + 1) * c .before .before .before .args .size ≤ c .before .before .before .args .n * c .before .before .before .args .size
@@ -36,18 +36,18 @@ loop-again : tie.Need-loop-again Inv-loop μ-loop
 loop-again c =
     let l = c .before .before .before .loop in
     let sound = sym (c .before .sound-at .ensures) ∙ c .if1 .taken in
-    (omega arith, sym (search-on (soundSized (c .before .before .before .before .before .args .size)) (c .before .before .before .before .before .args .size) headSize _ _ (l .i) (c .before .before .loop-test .taken) sound) ∙ l .inv .1)
+    (omega arith, sym (search-on (soundSized (c .before .before .before .before .before .args .size) (c .before .before .before .before .before .args .plain)) (c .before .before .before .before .before .args .size) headSize _ _ (l .i) (c .before .before .loop-test .taken) sound) ∙ l .inv .1)
 
 returns : tie.Need-returns Inv-loop μ-loop
 returns c =
     let l = c .before .before .before .loop in
     let sound = sym (c .before .sound-at .ensures) ∙ c .if1 .left in
-    sym (search-stops (soundSized (c .before .before .before .before .before .args .size)) (c .before .before .before .before .before .args .size) headSize _ _ (l .i) (c .before .before .loop-test .taken) sound) ∙ l .inv .1
+    sym (search-stops (soundSized (c .before .before .before .before .before .args .size) (c .before .before .before .before .before .args .plain)) (c .before .before .before .before .before .args .size) headSize _ _ (l .i) (c .before .before .loop-test .taken) sound) ∙ l .inv .1
 
 returns-2 : tie.Need-returns-2 Inv-loop μ-loop
 returns-2 c =
     let e : c .before .loop .i ≡ c .before .before .before .args .n = omega arith in
-    sym e ∙ sym (search-ends (soundSized (c .before .before .before .args .size)) (c .before .before .before .args .size) headSize _ _ _ (c .loop-test .left)) ∙ c .before .loop .inv .1
+    sym e ∙ sym (search-ends (soundSized (c .before .before .before .args .size) (c .before .before .before .args .plain)) (c .before .before .before .args .size) headSize _ _ _ (c .loop-test .left)) ∙ c .before .loop .inv .1
 
 pub first-bad-spec : {M : Type 1} → statement M
 first-bad-spec =

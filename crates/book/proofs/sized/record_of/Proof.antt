@@ -3,7 +3,7 @@ use mathlib.Core.Path.{sym, ap, _∙_}
 use denote.Ref.{now}
 use Rattle.rules.specs.Refusals.{given}
 use Rattle.rules.proofs.OnBook.BookLaws.{entry-by, record-refused, record-bad}
-use Rattle.book.specs.Views.{bookOf, checkedAs, inBits}
+use Rattle.book.specs.Views.{bookOf, checkedAs}
 use borrow.Author.Needs.{needs}
 use Rattle.book.proofs.sized.record_of.Statement.{statement}
 use Rattle.book.proofs.sized.record_of.Tie as tie
@@ -16,26 +16,26 @@ entry-of-requires c κs =
 returns-2 : tie.Need-returns-2
 returns-2 c =
     let a = c .before .before .before .before .args in
-    let format = bookOf (a .size) (a .most) (a .version) in
+    let format = bookOf (a .size) (a .most) (a .version) (a .plain) in
     let s = now (a .b) in
-    ap inBits (sym (entry-by format s (a .place) (record-refused format s _ (a .place)
-    (sym (c .before .before .check-of .ensures) ∙ ap checkedAs (c .enum-told2 .given .1)))))
+    sym (entry-by format s (a .place) (record-refused format s _ (a .place)
+    (sym (c .before .before .check-of .ensures) ∙ ap checkedAs (c .enum-told2 .given .1))))
 
 returns-3 : tie.Need-returns-3
 returns-3 c =
     let a = c .before .before .before .before .args in
-    let format = bookOf (a .size) (a .most) (a .version) in
+    let format = bookOf (a .size) (a .most) (a .version) (a .plain) in
     let s = now (a .b) in
-    ap inBits (sym (entry-by format s (a .place) (record-refused format s _ (a .place)
-    (sym (c .before .before .check-of .ensures) ∙ ap checkedAs (c .enum-told3 .given .1)))))
+    sym (entry-by format s (a .place) (record-refused format s _ (a .place)
+    (sym (c .before .before .check-of .ensures) ∙ ap checkedAs (c .enum-told3 .given .1))))
 
 returns-4 : tie.Need-returns-4
 returns-4 c =
     let a = c .before .before .before .before .before .args in
-    let format = bookOf (a .size) (a .most) (a .version) in
+    let format = bookOf (a .size) (a .most) (a .version) (a .plain) in
     let s = now (a .b) in
-    ap inBits (sym (entry-by format s (a .place) (record-bad format s _ _ (a .place)
-    (sym (c .before .before .before .check-of .ensures) ∙ ap checkedAs (c .before .checked .given .1)))))
+    sym (entry-by format s (a .place) (record-bad format s _ _ (a .place)
+    (sym (c .before .before .before .check-of .ensures) ∙ ap checkedAs (c .before .checked .given .1))))
 
 pub record-of-spec : {M : Type 1} → statement M
 record-of-spec =

@@ -50,3 +50,6 @@ pub const NOT_THERE: u8 = 16;
 
 // A book of version 1: a guessed date appended, which it does not take.
 pub const GUESSED_DATE: u8 = 20;
+
+// A book of version 2, moved back to version 1: a record with a field number or a mark.
+pub const FIELD_OR_MARK: u8 = 21;

@@ -1,0 +1,4 @@
+pub mod Versions
+pub mod WalkLaws
+pub mod RecastLaws
+pub mod MovesBy

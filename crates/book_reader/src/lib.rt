@@ -1,10 +1,12 @@
-// A reader that holds a book and a place in it. Each function takes the struct apart, or puts it together, and leaves the work to one
-// over a slice and a place. Callers who hold a slice use `next_at`.
+// A reader that holds a book of version 1 and a place in it; `any` has one for both versions. Each function takes the struct apart, or
+// puts it together, and leaves the work to one over a slice and a place. Callers who hold a slice use `next_at`.
 ghost use mathlib.Core.Path.{_≡_};
 ghost use Rattle.rules.specs.Book.{entryAt, version1};
 ghost use Rattle.book.specs.Views.{foundAs, inBits};
 ghost use Rattle.book_reader.specs.Places.{nextPlace};
 use book::Found;
+
+pub mod any;
 
 pub struct BookReader<'a> {
     pub book: &'a [u8],

@@ -10,8 +10,9 @@ use Rattle.rules.proofs.OnKinds.KindLaws.{fit}
 use Rattle.rules.proofs.OnKinds.PackLaws.{marked-back, word-fits}
 use Rattle.rules.proofs.OnBook.EntryLaws.{code-back, twos-fit, year-back}
 use Rattle.codes.specs.declared.Coded.{Coded}
-use Rattle.codes.specs.Views.{codedAs}
-use Rattle.pennyquill.specs.Boundary.{dateNumber, dateIn}
+use Rattle.requests.specs.Second.{fieldEntryFor}
+use Rattle.codes.specs.Views.{codedAs, dateNumber}
+use Rattle.pennyquill.specs.Boundary.{dateIn}
 
 -- ---- a kind by its code
 
@@ -23,6 +24,10 @@ by-code e told = sym e ∙ ap codedAs told
 pub entry-code : (code : ℕ) {k : Kind} (d : Stored) → kindOfCode code ≡ Gives k → entryFor code d ≡ entryFor (kindCode k) d
 unfolding entryFor
 entry-code code {k = k} d e = rw (e, code-back k)
+
+pub field-entry-code : (code : ℕ) {k : Kind} (field : ℕ) (d : Stored) → kindOfCode code ≡ Gives k → fieldEntryFor code field d ≡ fieldEntryFor (kindCode k) field d
+unfolding fieldEntryFor
+field-entry-code code {k = k} field d e = rw (e, code-back k)
 
 -- ---- a date's number
 

@@ -1,3 +1,4 @@
 pub mod Laws
 pub mod Sizes
+pub mod BookSizes
 pub mod TableLaws

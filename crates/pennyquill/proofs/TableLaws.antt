@@ -1,4 +1,4 @@
--- A field table across the boundary: how large the counts are, and the answers of many lookups one after the other. Assumes nothing.
+-- A field table across the boundary: how large the counts are, and how many lookups one call answers. Assumes nothing.
 use mathlib.Core.Path.{_≡_, refl, sym, ap, _∙_}
 use mathlib.Core.Bool.{true, false, cond}
 use mathlib.Core.List.{List, [], _∷_, _++_, append-assoc}
@@ -14,17 +14,17 @@ use Rattle.rules.specs.Refusals.{Answer, Gives, Refused, _then_}
 use Rattle.rules.specs.Kinds.{Kind}
 use Rattle.rules.proofs.OnBook.FrameLaws.{Sensible, then-met}
 use Rattle.requests.specs.FieldTable.{tableFrame, table1, badEntry, gameKind, entries, counted, check, declared, removed}
-use Rattle.requests.proofs.OnEntries.KeepLaws.{either}
 use Rattle.requests.proofs.OnFieldTable.HeldLaws.{sensible-table, found-holds}
+use Rattle.requests.specs.Fours.{least}
+use Rattle.requests.proofs.OnFours.FourLaws.{least-first, least-second}
 use Rattle.requests.proofs.OnFieldTable.AfterLaws.{after-declare, after-remove}
 use Rattle.field_table.specs.declared.Checked.{Checked}
 use Rattle.field_table.specs.declared.Checked.the-variants as C
 use Rattle.field_table.specs.declared.Changed.{Changed}
 use Rattle.field_table.specs.declared.Changed.the-variants as G
 use Rattle.field_table.specs.Views.{checkedAs, changedAs}
-use Rattle.pennyquill.specs.declared.PqLookup.{PqLookup}
 use Rattle.pennyquill.specs.Boundary.{numberOf}
-use Rattle.pennyquill.specs.Tables.{four, fours, least, asked, lookups}
+use Rattle.pennyquill.specs.Tables.{asked, lookups}
 
 -- ---- counts
 
@@ -67,40 +67,6 @@ pub removed-small : (s : List ℕ) (field : ℕ) (r : Changed) → changedAs r �
 removed-small s field r e =
     changed-by (removed table1 s field) (λ rs d. few _ rs (after-remove table1 sensible s field rs d)) r e
 
--- ---- the answers of many lookups
-
-pub four-sets : (s : List ℕ) (at a b c d : ℕ) → set (set (set (set s at a) (at + 1) b) (at + 2) c) (at + 3) d ≡ sets s at (a ∷ b ∷ c ∷ d ∷ [])
-four-sets s at a b c d =
-    let p : at + 1 ≡ suc at = omega arith in
-    let q : at + 2 ≡ suc (suc at) = omega arith in
-    let r : at + 3 ≡ suc (suc (suc at)) = omega arith in
-    rw (p, q, r)
-
-module _ (f : ℕ → PqLookup) where
-  pub fours-long : (n : ℕ) → length (fours f n) ≡ n * 4
-  unfolding fours
-  fours-long zero = refl
-  fours-long (suc n) = rw (length-append, fours-long n) (omega arith)
-
-  -- none yet
-  pub fours-none : (s : List ℕ) → s ≡ fours f 0 ++ drop (0 * 4) s
-  unfolding fours
-  fours-none s = refl
-
-  -- one more
-  pub fours-more : (i : ℕ) (s out t : List ℕ) (l : PqLookup) → out ≡ fours f i ++ drop (i * 4) s → l ≡ f i → i * 4 + 4 ≤ length s →
-      t ≡ sets out (i * 4) (four l) → t ≡ fours f (i + 1) ++ drop ((i + 1) * 4) s
-  unfolding fours
-  fours-more i s out t l e g h p =
-      let m = fours-long i in
-      let rest = drop (i * 4) s in
-      let n : length (fours f i ++ rest) ≡ length s = rw (length-append, m) (rw length-drop (omega arith)) in
-      let z : i * 4 + 4 ≡ length (fours f i) + 4 = omega arith in
-      let y : i * 4 + 4 ≡ (i + 1) * 4 = omega arith in
-      let after : drop (i * 4 + 4) (fours f i ++ rest) ≡ drop ((i + 1) * 4) s =
-      ap (λ (x : ℕ). drop x (fours f i ++ rest)) z ∙ drop-append-add (fours f i) rest 4 ∙ drop-drop 4 (i * 4) s ∙ ap (λ (x : ℕ). drop x s) y in
-      p ∙ rw (e, g) (sets-eq (four (f i)) (fours f i ++ rest) (i * 4) (omega arith) ∙ rw (take-at (fours f i) rest (i * 4) m, after, add-one i))
-
 -- ---- the whole call
 
 module _ (s : List ℕ) (game : ℕ) (fields : List ℕ) (numbers : List ℤ) (out : List ℕ) where
@@ -115,12 +81,6 @@ module _ (s : List ℕ) (game : ℕ) (fields : List ℕ) (numbers : List ℤ) (o
   pub no-table : {m : ℕ} → Refused m ≡ check table1 s → lookups s game fields numbers out ≡ Refused m
   unfolding lookups
   no-table e = rw (← e)
-
-least-first : (a b : ℕ) → least a b ≤ a
-least-first a b = either (leb a b) (λ e. rw e (omega arith)) (λ e. let l = leb-false a b e in rw e (omega arith))
-
-least-second : (a b : ℕ) → least a b ≤ b
-least-second a b = either (leb a b) (λ e. let l = leb-true a b e in rw e (omega arith)) (λ e. rw e (omega arith))
 
 -- there are so many fields, numbers and fours
 pub record Enough (n fields numbers out : ℕ) : Type 0 where

@@ -1,22 +1,20 @@
 -- What crosses to C: a kind and a date as numbers, and an answer as a struct, every member of it. Assumes nothing.
-use Prim.Native.Nat.{ℕ, _+_, _*_, _/_, _%_}
+use Prim.Native.Nat.{ℕ, _/_, _%_}
 use lib.IntN.{ℤ, pos}
 use Rattle.rules.specs.Words.{minus}
 use Rattle.rules.specs.Refusals.{Answer, Gives, Refused, RefusedAt, _then_, notOfKind}
 use Rattle.rules.specs.Kinds.{Kind, Fields, Stored, store, ofDate, ofDates}
 use Rattle.rules.specs.Days.{Order, Before, Same, After}
-use Rattle.rules.specs.Book.{kindCode, kindOfCode, twosComplement, yearOfTwos}
-use Rattle.book.specs.Views.{Bits}
+use Rattle.rules.specs.Book.{kindCode, kindOfCode, yearOfTwos}
+use Rattle.requests.specs.Second.{FieldEntry}
+use Rattle.codes.specs.Views.{dateNumber}
 use Rattle.pennyquill.specs.declared.PqAnswer.{PqAnswer}
 use Rattle.pennyquill.specs.declared.PqNumber.{PqNumber}
 use Rattle.pennyquill.specs.declared.PqRecord.{PqRecord}
 
 -- ---- into the library
 
--- "(uint32_t)(uint16_t)year << 16 | packed word": a date as one number, and back
-abbrev pub dateNumber : Stored → ℕ
-dateNumber d = twosComplement (d .year) * 65536 + d .word
-
+-- a date from its number; `dateNumber` is the way there
 abbrev pub dateIn : ℕ → Stored
 dateIn date = record { year = yearOfTwos (date / 65536); word = date % 65536 }
 
@@ -34,7 +32,8 @@ ofDatesGiven kind first second next = ofKindGiven kind (λ k. ofDates k (dateIn 
 
 -- ---- out of it
 
--- "refusal 0 means that value holds the answer; at 11 value is the place"; at every other refusal it is 0, so that the struct is fixed
+-- "refusal 0 means that value holds the answer; at 11 value is the place", and at 21; at every other refusal it is 0, so that the struct is
+-- fixed
 abbrev pub crossed : Answer ℕ → PqAnswer
 crossed (Gives value) = record { refusal = 0; value = value }
 crossed (Refused n) = record { refusal = n; value = 0 }
@@ -62,9 +61,9 @@ orderNumber After = pos 1
 abbrev pub orderCrossed : Answer Order → PqNumber
 orderCrossed a = numberCrossed (a then λ o. Gives (orderNumber o))
 
--- "refusal, kind, value (the date; at 11 the place), field (0 today)"
-abbrev pub recordCrossed : Answer Bits → PqRecord
-recordCrossed (Gives e) = record { refusal = 0; kind = kindCode (e .kind); value = dateNumber (e .date); field = 0 }
+-- "refusal, kind, value (the date; at 11 the place)" and field, which #107 fills: 0 for none, and in version 1
+abbrev pub recordCrossed : Answer FieldEntry → PqRecord
+recordCrossed (Gives e) = record { refusal = 0; kind = kindCode (e .kind); value = dateNumber (e .date); field = e .field }
 recordCrossed (Refused n) = record { refusal = n; kind = 0; value = 0; field = 0 }
 recordCrossed (RefusedAt n place) = record { refusal = n; kind = 0; value = place; field = 0 }
 

@@ -1,17 +1,17 @@
 -- What crosses to C of a field table: an entry, a lookup, and the lookups of many numbers in one call. Assumes nothing.
-use Prim.Native.Nat.{ℕ, zero, suc, _*_, _/_}
-use mathlib.Core.Bool.{Bool, true, false, cond}
+use Prim.Native.Nat.{ℕ, _*_, _/_}
+use mathlib.Core.Bool.{Bool, true, false}
 use mathlib.Core.List.{List, [], _∷_, _++_}
-use lib.Dec.{leb}
 use lib.IntN.{ℤ, pos}
 use lib.ListN.{length, getD, drop}
 use Rattle.rules.specs.Refusals.{Answer, Gives, Refused, RefusedAt, _then_}
 use Rattle.rules.specs.Book.{kindCode}
 use Rattle.requests.specs.FieldTable.{table1, gameKind, Declared, check, lookup}
+use Rattle.requests.specs.Fours.{fours, least}
+use Rattle.codes.specs.Views.{dateNumber}
 use Rattle.field_table.specs.Views.{Bits, inBits}
 use Rattle.pennyquill.specs.declared.PqRecord.{PqRecord}
 use Rattle.pennyquill.specs.declared.PqLookup.{PqLookup}
-use Rattle.pennyquill.specs.Boundary.{dateNumber}
 
 -- "gives the entry at a place from 0 (kind, field; value 0)"
 abbrev pub entryCrossed : Answer Declared → PqRecord
@@ -36,17 +36,9 @@ lookupCrossed (RefusedAt n place) = record { refusal = n; kind = 0; value = 0; g
 abbrev pub four : PqLookup → List ℕ
 four l = l .refusal ∷ l .kind ∷ l .value ∷ l .guessed ∷ []
 
--- the first n of them, one after the other
-unfoldable pub fours : (ℕ → PqLookup) → ℕ → List ℕ
-fours answer zero = []
-fours answer (suc n) = fours answer n ++ four (answer n)
-
--- the answer to question i: what a lookup by itself gives
-abbrev pub answerTo : List ℕ → ℕ → List ℕ → List ℤ → ℕ → PqLookup
-answerTo table game fields numbers i = lookupCrossed (inBits (lookup table1 table (getD fields i 0) game (getD numbers i (pos 0))))
-
-abbrev pub least : ℕ → ℕ → ℕ
-least a b = cond (leb a b) a b
+-- the answer to question i: what a lookup by itself gives, as four numbers
+abbrev pub answerTo : List ℕ → ℕ → List ℕ → List ℤ → ℕ → List ℕ
+answerTo table game fields numbers i = four (lookupCrossed (inBits (lookup table1 table (getD fields i 0) game (getD numbers i (pos 0)))))
 
 -- how many questions are answered: as many as there are fields, numbers and fours to answer them in, up to what 32 bits hold
 abbrev pub asked : List ℕ → List ℤ → List ℕ → ℕ

@@ -1,8 +1,8 @@
-// A book of dates in a buffer that the caller lends.
+// A book of version 1 in a buffer that the caller lends.
 ghost use mathlib.Core.Path.{_≡_};
 ghost use Prim.Native.Nat.{_≤_};
 ghost use Rattle.rules.specs.Book.{check, appendAnswer, appendBuffer, newAnswer, newBuffer, version1, entryAt, entryFor};
-ghost use Rattle.rules.specs.Refusals.{RefusedAt, badRecord};
+ghost use Rattle.rules.specs.Refusals.{RefusedAt};
 ghost use Rattle.frame.specs.Views.{startedAs};
 ghost use Rattle.book.specs.Views.{inBits, checkedAs, foundAs, appendedAs};
 ghost use Rattle.pennyquill.specs.Boundary.{dateIn, crossed, recordCrossed, numberOf, placeOf};
@@ -17,12 +17,13 @@ use frame::Started;
 
 // ---- answers
 
-fn bad_record(place: usize) -> PqAnswer
+// A refusal with a place.
+pub fn refused_at(n: u8, place: usize) -> PqAnswer
     requires { ⌜ place ≤ 4096 ⌝ }
-    ensures { λ r. ⌜ r ≡ crossed (RefusedAt badRecord place) ⌝ }
+    ensures { λ r. ⌜ r ≡ crossed (RefusedAt n place) ⌝ }
 {
     PqAnswer {
-        refusal: refusals::BAD_RECORD as u32,
+        refusal: n as u32,
         value: place as u32,
     }
 }
@@ -36,7 +37,7 @@ pub fn start_crossed(started: Started) -> PqAnswer
     }
 }
 
-fn count_crossed(checked: Checked) -> PqAnswer
+pub fn count_crossed(checked: Checked) -> PqAnswer
     requires { ⌜ numberOf (checkedAs checked) ≤ 4096 ⌝ }
     ensures { λ r. ⌜ r ≡ crossed (checkedAs checked) ⌝ }
 {
@@ -44,11 +45,11 @@ fn count_crossed(checked: Checked) -> PqAnswer
         Checked::Records(n) => crossing::gives(n as u32),
         Checked::BadLength => crossing::refused(refusals::BAD_LENGTH),
         Checked::BadVersion => crossing::refused(refusals::BAD_VERSION),
-        Checked::BadRecord(place) => bad_record(place),
+        Checked::BadRecord(place) => refused_at(refusals::BAD_RECORD, place),
     }
 }
 
-fn place_crossed(appended: Appended) -> PqAnswer
+pub fn place_crossed(appended: Appended) -> PqAnswer
     requires { ⌜ numberOf (appendedAs appended) ≤ 4096 ⌝ }
     ensures { λ r. ⌜ r ≡ crossed (appendedAs appended) ⌝ }
 {
@@ -57,7 +58,7 @@ fn place_crossed(appended: Appended) -> PqAnswer
         Appended::NotOfKind => crossing::not_of_kind(),
         Appended::BadLength => crossing::refused(refusals::BAD_LENGTH),
         Appended::BadVersion => crossing::refused(refusals::BAD_VERSION),
-        Appended::BadRecord(place) => bad_record(place),
+        Appended::BadRecord(place) => refused_at(refusals::BAD_RECORD, place),
         Appended::NoRoom => crossing::refused(refusals::NO_ROOM),
         Appended::GuessedDate => crossing::refused(refusals::GUESSED_DATE),
     }
@@ -74,16 +75,16 @@ pub fn no_record(n: u8, place: u32) -> PqRecord
     }
 }
 
-fn record_crossed(found: Found) -> PqRecord
+pub fn record_crossed(found: Found) -> PqRecord
     requires { ⌜ placeOf (foundAs found) ≤ 4096 ⌝ }
     ensures { λ r. ⌜ r ≡ recordCrossed (foundAs found) ⌝ }
 {
     match found {
-        Found::Record { kind, date } => PqRecord {
+        Found::Record { kind, field, date } => PqRecord {
             refusal: 0,
             kind: codes::kind_code(kind) as u32,
-            value: crossing::date_number(date),
-            field: 0,
+            value: codes::date_number(date),
+            field: field as u32,
         },
         Found::BadLength => no_record(refusals::BAD_LENGTH, 0),
         Found::BadVersion => no_record(refusals::BAD_VERSION, 0),

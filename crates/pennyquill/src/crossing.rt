@@ -1,8 +1,9 @@
-// A date as the number that crosses, and the answers that have no value.
+// A date from the number that crosses, and the answers.
 ghost use mathlib.Core.Path.{_≡_};
 ghost use Rattle.rules.specs.Refusals.{Gives, Refused, notOfKind};
 ghost use Rattle.kinds.specs.Views.{bitsOf};
-ghost use Rattle.pennyquill.specs.Boundary.{dateNumber, dateIn, crossed, numberCrossed};
+ghost use Rattle.codes.specs.Views.{dateNumber};
+ghost use Rattle.pennyquill.specs.Boundary.{dateIn, crossed, numberCrossed};
 use crate::PqAnswer;
 use crate::PqNumber;
 use kinds::Packed;
@@ -16,15 +17,6 @@ pub fn date_in(date: u32) -> Packed
     Packed { year, word }
 }
 
-// The number of a date, from its bits.
-pub fn date_number(date: Packed) -> u32
-    ensures { λ r. ⌜ r ≡ dateNumber (bitsOf date) ⌝ }
-{
-    let year = codes::twos_complement(date.year) as u32;
-    let word = date.word as u32;
-    year * 65536 + word
-}
-
 // ---- answers
 
 pub fn gives(value: u32) -> PqAnswer
@@ -36,7 +28,7 @@ pub fn gives(value: u32) -> PqAnswer
 pub fn gives_date(date: Packed) -> PqAnswer
     ensures { λ r. ⌜ r ≡ crossed (Gives (dateNumber (bitsOf date))) ⌝ }
 {
-    gives(date_number(date))
+    gives(codes::date_number(date))
 }
 
 pub fn refused(n: u8) -> PqAnswer

@@ -6,8 +6,9 @@ mod dates;
 mod days;
 mod tables;
 mod texts;
+mod versions;
 
-// Refusal 0: value is the answer, a date's number, a length, a count or a place. At 11 value is the bad record's place, and at every
+// Refusal 0: value is the answer, a date's number, a length, a count or a place. At 11 and 21 value is the record's place, and at every
 // other refusal 0.
 #[repr(C)]
 pub struct PqAnswer {
@@ -22,7 +23,7 @@ pub struct PqNumber {
     pub value: i32,
 }
 
-// A record of a book, whose field is 0 today; or an entry of a field table, whose value is 0.
+// A record of a book, whose field is 0 for none and in version 1; or an entry of a field table, whose value is 0.
 #[repr(C)]
 pub struct PqRecord {
     pub refusal: u32,

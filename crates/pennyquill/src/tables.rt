@@ -2,15 +2,15 @@
 ghost use mathlib.Core.Path.{_≡_};
 ghost use mathlib.Core.Bool.{true};
 ghost use mathlib.Core.List.{_++_};
-ghost use Prim.Native.Nat.{_+_, _*_, _≤_};
+ghost use Prim.Native.Nat.{_*_, _≤_};
 ghost use lib.ListN.{length, drop};
-ghost use lib.Seq.{sets};
 ghost use Rattle.rules.specs.Refusals.{Refused, given};
 ghost use Rattle.rules.specs.Book.{newAnswer, newBuffer};
 ghost use Rattle.requests.specs.FieldTable.{table1, check, entryAt, counted, declared, declareBuffer, removed, removeBuffer, lookup};
 ghost use Rattle.field_table.specs.Views.{checkedAs, changedAs, entryAs, inBits, lookedAs};
 ghost use Rattle.pennyquill.specs.Boundary.{crossed, numberOf};
-ghost use Rattle.pennyquill.specs.Tables.{entryCrossed, lookupCrossed, four, fours, answerTo, least, lookups, answered};
+ghost use Rattle.requests.specs.Fours.{fours};
+ghost use Rattle.pennyquill.specs.Tables.{entryCrossed, lookupCrossed, answerTo, lookups, answered};
 use crate::PqAnswer;
 use crate::PqLookup;
 use crate::PqRecord;
@@ -88,13 +88,13 @@ fn look_crossed(looked: Looked) -> PqLookup
         Looked::Declared { kind, date } => PqLookup {
             refusal: 0,
             kind: codes::kind_code(kind) as u32,
-            value: crossing::date_number(date),
+            value: codes::date_number(date),
             guessed: 0,
         },
         Looked::Guessed { kind, date } => PqLookup {
             refusal: 0,
             kind: codes::kind_code(kind) as u32,
-            value: crossing::date_number(date),
+            value: codes::date_number(date),
             guessed: 1,
         },
         Looked::BadLength => not_looked(refusals::BAD_LENGTH),
@@ -153,25 +153,6 @@ pub extern "C" fn pq_table_lookup(table: &[u8], field: u32, game_kind: u32, numb
 
 // ---- many numbers in one call
 
-fn least(a: usize, b: usize) -> usize
-    ensures { λ r. ⌜ r ≡ least a b ⌝ }
-{
-    if a <= b {
-        return a;
-    }
-    b
-}
-
-fn put_four(out: &mut [u32], at: usize, looked: PqLookup)
-    requires { ⌜ at + 4 ≤ length (now out) ⌝ }
-    ensures { λ _. ⌜ now (out .exit) ≡ sets (now (out .entry)) at (four looked) ⌝ }
-{
-    out[at] = looked.refusal;
-    out[at + 1] = looked.kind;
-    out[at + 2] = looked.value;
-    out[at + 3] = looked.guessed;
-}
-
 // The answers to the first n questions, in a table that was checked.
 fn answer_all(
     table: &[u8],
@@ -188,7 +169,14 @@ fn answer_all(
     let mut i = 0;
     while i < n {
         let looked = look_crossed(field_table::look(table, fields[i], game_kind, numbers[i]));
-        put_four(out, i * 4, looked);
+        fours::put(
+            out,
+            i * 4,
+            looked.refusal,
+            looked.kind,
+            looked.value,
+            looked.guessed,
+        );
         i += 1;
     }
 }
@@ -210,8 +198,8 @@ pub extern "C" fn pq_table_lookup_all(
             let coded = field_table::allowed::game_kind(game_kind);
             match coded {
                 Coded::Kind(_) => {
-                    let questions = least(fields.len(), numbers.len());
-                    let n = least(questions, least(out.len() / 4, MOST_ASKED));
+                    let questions = fours::least(fields.len(), numbers.len());
+                    let n = fours::least(questions, fours::least(out.len() / 4, MOST_ASKED));
                     answer_all(table, game_kind, fields, numbers, out, n);
                     crossing::gives(n as u32)
                 }

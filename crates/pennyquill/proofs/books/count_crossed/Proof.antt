@@ -7,8 +7,8 @@ use Rattle.pennyquill.proofs.books.count_crossed.Tie as tie
 cast-gives : tie.Need-cast-gives
 cast-gives c = omega (arith, rw (c .before .checked .given .1) at (c .before .before .before .pre))
 
-bad-record-requires : tie.Need-bad-record-requires
-bad-record-requires c κs = rw (c .before .checked2 .given .1) at (c .before .before .before .pre)
+refused-at-requires : tie.Need-refused-at-requires
+refused-at-requires c κs = rw (c .before .checked2 .given .1) at (c .before .before .before .pre)
 
 returns : tie.Need-returns
 returns c = rw (c .before .before .checked .given .1) (c .gives .ensures)
@@ -20,7 +20,7 @@ returns-3 : tie.Need-returns-3
 returns-3 c = rw (c .before .enum-told2 .given .1) (c .refused2 .ensures)
 
 returns-4 : tie.Need-returns-4
-returns-4 c = rw (c .before .before .checked2 .given .1) (c .bad-record .ensures)
+returns-4 c = rw (c .before .before .checked2 .given .1) (c .refused-at .ensures)
 
 pub count-crossed-spec : {M : Type 1} → statement M
 count-crossed-spec =
@@ -34,7 +34,7 @@ count-crossed-spec =
     (λ c. search needs)
     (λ c κs. search needs)
     (λ c. search needs)
-    bad-record-requires
+    refused-at-requires
     returns
     returns-2
     returns-3

@@ -7,8 +7,8 @@ use Rattle.pennyquill.proofs.books.place_crossed.Tie as tie
 cast-gives : tie.Need-cast-gives
 cast-gives c = omega (arith, rw (c .before .appended .given .1) at (c .before .before .before .pre))
 
-bad-record-requires : tie.Need-bad-record-requires
-bad-record-requires c κs = rw (c .before .appended2 .given .1) at (c .before .before .before .pre)
+refused-at-requires : tie.Need-refused-at-requires
+refused-at-requires c κs = rw (c .before .appended2 .given .1) at (c .before .before .before .pre)
 
 returns : tie.Need-returns
 returns c = rw (c .before .before .appended .given .1) (c .gives .ensures)
@@ -23,7 +23,7 @@ returns-4 : tie.Need-returns-4
 returns-4 c = rw (c .before .enum-told3 .given .1) (c .refused2 .ensures)
 
 returns-5 : tie.Need-returns-5
-returns-5 c = rw (c .before .before .appended2 .given .1) (c .bad-record .ensures)
+returns-5 c = rw (c .before .before .appended2 .given .1) (c .refused-at .ensures)
 
 returns-6 : tie.Need-returns-6
 returns-6 c = rw (c .before .enum-told4 .given .1) (c .refused3 .ensures)
@@ -45,7 +45,7 @@ place-crossed-spec =
     (λ c. search needs)
     (λ c κs. search needs)
     (λ c. search needs)
-    bad-record-requires
+    refused-at-requires
     (λ c. search needs)
     (λ c κs. search needs)
     (λ c. search needs)

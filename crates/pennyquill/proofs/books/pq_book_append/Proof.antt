@@ -1,9 +1,9 @@
 -- `pennyquill::books::pq_book_append` meets its contract: the kind by its code, then the record of the date. Assumes nothing.
 use mathlib.Core.Path.{refl, ap, _∙_}
-use Rattle.rules.specs.Book.{appendAnswer, appendBuffer, entryFor}
+use Rattle.rules.specs.Book.{appendAnswer, appendBuffer, entryFor, version1}
 use Rattle.pennyquill.specs.Boundary.{crossed}
 use Rattle.pennyquill.proofs.Laws.{by-code, entry-code}
-use Rattle.pennyquill.proofs.Sizes.{append-small}
+use Rattle.pennyquill.proofs.BookSizes.{one, one-handed, append-small}
 use borrow.Author.Needs.{needs}
 use Rattle.pennyquill.proofs.books.pq_book_append.Statement.{statement}
 use Rattle.pennyquill.proofs.books.pq_book_append.Tie as tie
@@ -14,7 +14,7 @@ returns c =
     rw (by-code (c .before .before .before .kind-of-code .ensures) (c .before .enum-told .given .1)) (c .not-of-kind .ensures, refl)
 
 place-crossed-requires : tie.Need-place-crossed-requires
-place-crossed-requires c κs = rw (c .before .before .append .ensures .0) (append-small _ _ _)
+place-crossed-requires c κs = rw (c .before .before .append .ensures .0) (append-small version1 one _ _ (one-handed _ _))
 
 returns-2 : tie.Need-returns-2
 returns-2 c =

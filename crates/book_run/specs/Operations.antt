@@ -1,10 +1,11 @@
 -- What is told of a book operation, and the buffer after it, by `rules`. Assumes nothing.
 use Prim.Native.Nat.{ℕ}
 use mathlib.Core.List.{List}
-use Rattle.rules.specs.Refusals.{Answer, Gives, Refused, RefusedAt, _then_, badRecord}
+use Rattle.rules.specs.Refusals.{Answer, Gives, Refused, RefusedAt, _then_}
 use Rattle.rules.specs.Book.{check, entryAt, appendAnswer, appendBuffer, newAnswer, newBuffer, kindCode, version1, entryFor}
 use Rattle.kinds.specs.Views.{kindOf, bitsOf}
-use Rattle.book.specs.Views.{Bits, inBits}
+use Rattle.requests.specs.Second.{FieldEntry}
+use Rattle.book.specs.Views.{inBits}
 use Rattle.book_run.specs.declared.operations.Operation.{Operation}
 use Rattle.book_run.specs.declared.operations.Operation.the-variants as O
 use Rattle.book_run.specs.declared.operations.Told.{Told}
@@ -14,14 +15,14 @@ use Rattle.book_run.specs.declared.operations.Told.the-variants as T
 pub data Value : Type 0 where
   Done : Value
   Number : ℕ → Value
-  Recorded : Bits → Value
+  Recorded : FieldEntry → Value
 
 abbrev pub toldAs : Told → Answer Value
 toldAs T.Done = Gives Done
 toldAs (T.Number n) = Gives (Number n)
-toldAs (T.Record k d) = Gives (Recorded (record { kind = kindOf k; date = bitsOf d }))
+toldAs (T.Record k field d) = Gives (Recorded (record { kind = kindOf k; field = field; date = bitsOf d }))
 toldAs (T.Refused n) = Refused n
-toldAs (T.BadRecord place) = RefusedAt badRecord place
+toldAs (T.RefusedAt n place) = RefusedAt n place
 
 abbrev pub answerOf : Operation → List ℕ → Answer Value
 answerOf O.New s = newAnswer s then λ n. Gives Done

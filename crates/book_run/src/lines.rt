@@ -3,6 +3,8 @@
 use crate::operations::Operation;
 use crate::table_lines;
 use crate::tables::TableOperation;
+use crate::version_lines;
+use crate::versions::VersionOperation;
 use codes::Lettered;
 use kinds::Kind;
 use kinds::Packed;
@@ -29,6 +31,16 @@ pub(crate) enum Line {
         code: u8,
     },
     Operation(Operation),
+    Version(VersionOperation),
+    Walk {
+        place: usize,
+        numbers: usize,
+    },
+    Move {
+        upward: bool,
+        room: usize,
+        byte: u8,
+    },
     Table(TableOperation),
     Unread,
 }
@@ -37,13 +49,13 @@ pub(crate) fn read(row: &[u8]) -> Line {
     match rows::byte(row, 0) {
         b'#' => Line::Remark,
         b'b' => buffer(row),
-        b's' => set(row),
+        b's' => set_or_second(row),
         b'c' => copy_or_check(row),
         b'n' => new(row),
         b'r' => record(row),
-        b'a' => append(row),
+        b'a' => append_or_any(row),
         b'e' => entries(row),
-        b't' => table_lines::read(row),
+        b't' => table_or_to(row),
         _ => Line::Unread,
     }
 }
@@ -53,6 +65,27 @@ fn copy_or_check(row: &[u8]) -> Line {
         return copy(row);
     }
     check(row)
+}
+
+fn set_or_second(row: &[u8]) -> Line {
+    if rows::byte(row, 2) == b'c' {
+        return version_lines::second(row);
+    }
+    set(row)
+}
+
+fn append_or_any(row: &[u8]) -> Line {
+    if rows::byte(row, 1) == b'n' {
+        return version_lines::any(row);
+    }
+    append(row)
+}
+
+fn table_or_to(row: &[u8]) -> Line {
+    if rows::byte(row, 1) == b'o' {
+        return version_lines::to(row);
+    }
+    table_lines::read(row)
 }
 
 // ---- a place is a number of 64 bits
@@ -162,20 +195,32 @@ fn append_date(row: &[u8], at: usize, kind: Kind) -> Line {
     let year = rows::signed(row, rows::after(row, at, b' '));
     let word = rows::natural(row, rows::after(row, year.next, b' '));
     if rows::ends(row, word.next) {
-        let up = year.up;
-        let dn = year.dn;
-        let packed = word.up;
-        if up <= 32767 {
-            if dn <= 32768 {
-                if packed <= 65535 {
-                    let date = Packed {
-                        year: sign::int16(up, dn),
-                        word: packed as u16,
-                    };
-                    return Line::Operation(Operation::Append { kind, date });
-                }
+        return match date_by(year.up, year.dn, word.up) {
+            Dated::Date(date) => Line::Operation(Operation::Append { kind, date }),
+            Dated::None => Line::Unread,
+        };
+    }
+    Line::Unread
+}
+
+// ---- a date's bits
+
+pub(crate) enum Dated {
+    Date(Packed),
+    None,
+}
+
+// By the halves of a year and by a word, where they have so many bits.
+pub(crate) fn date_by(up: u64, dn: u64, word: u64) -> Dated {
+    if up <= 32767 {
+        if dn <= 32768 {
+            if word <= 65535 {
+                return Dated::Date(Packed {
+                    year: sign::int16(up, dn),
+                    word: word as u16,
+                });
             }
         }
     }
-    Line::Unread
+    Dated::None
 }

@@ -18,13 +18,20 @@ pub(crate) enum Operation {
     Append { kind: Kind, date: Packed },
 }
 
-// What is told of an operation: what it gives, or the number of its refusal, which for a bad record has a place.
+// What is told of an operation: what it gives, or the number of its refusal, some with a record's place.
 pub(crate) enum Told {
     Done,
     Number(usize),
-    Record { kind: Kind, date: Packed },
+    Record {
+        kind: Kind,
+        field: u16,
+        date: Packed,
+    },
     Refused(u8),
-    BadRecord(usize),
+    RefusedAt {
+        refusal: u8,
+        place: usize,
+    },
 }
 
 pub(crate) fn operate(b: &mut [u8], operation: Operation) -> Told
@@ -39,7 +46,7 @@ pub(crate) fn operate(b: &mut [u8], operation: Operation) -> Told
     }
 }
 
-fn started(answer: Started) -> Told
+pub(crate) fn started(answer: Started) -> Told
     ensures { λ r. ⌜ toldAs r ≡ (startedAs answer then λ n. Gives Done) ⌝ }
 {
     match answer {
@@ -48,30 +55,36 @@ fn started(answer: Started) -> Told
     }
 }
 
-fn checked(answer: Checked) -> Told
+pub(crate) fn checked(answer: Checked) -> Told
     ensures { λ r. ⌜ toldAs r ≡ (checkedAs answer then λ n. Gives (Number n)) ⌝ }
 {
     match answer {
         Checked::Records(n) => Told::Number(n),
         Checked::BadLength => Told::Refused(refusals::BAD_LENGTH),
         Checked::BadVersion => Told::Refused(refusals::BAD_VERSION),
-        Checked::BadRecord(place) => Told::BadRecord(place),
+        Checked::BadRecord(place) => Told::RefusedAt {
+            refusal: refusals::BAD_RECORD,
+            place,
+        },
     }
 }
 
-fn found(answer: Found) -> Told
+pub(crate) fn found(answer: Found) -> Told
     ensures { λ r. ⌜ toldAs r ≡ (foundAs answer then λ b. Gives (Recorded b)) ⌝ }
 {
     match answer {
-        Found::Record { kind, date } => Told::Record { kind, date },
+        Found::Record { kind, field, date } => Told::Record { kind, field, date },
         Found::BadLength => Told::Refused(refusals::BAD_LENGTH),
         Found::BadVersion => Told::Refused(refusals::BAD_VERSION),
-        Found::BadRecord(place) => Told::BadRecord(place),
+        Found::BadRecord(place) => Told::RefusedAt {
+            refusal: refusals::BAD_RECORD,
+            place,
+        },
         Found::NoRecord => Told::Refused(refusals::NO_RECORD),
     }
 }
 
-fn appended(answer: Appended) -> Told
+pub(crate) fn appended(answer: Appended) -> Told
     ensures { λ r. ⌜ toldAs r ≡ (appendedAs answer then λ n. Gives (Number n)) ⌝ }
 {
     match answer {
@@ -79,8 +92,19 @@ fn appended(answer: Appended) -> Told
         Appended::NotOfKind => Told::Refused(refusals::NOT_OF_KIND),
         Appended::BadLength => Told::Refused(refusals::BAD_LENGTH),
         Appended::BadVersion => Told::Refused(refusals::BAD_VERSION),
-        Appended::BadRecord(place) => Told::BadRecord(place),
+        Appended::BadRecord(place) => Told::RefusedAt {
+            refusal: refusals::BAD_RECORD,
+            place,
+        },
         Appended::NoRoom => Told::Refused(refusals::NO_ROOM),
         Appended::GuessedDate => Told::Refused(refusals::GUESSED_DATE),
+    }
+}
+
+// Whether a number is told, and no refusal.
+pub(crate) fn is_number(told: Told) -> bool {
+    match told {
+        Told::Number(_) => true,
+        _ => false,
     }
 }

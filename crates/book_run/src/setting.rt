@@ -1,4 +1,4 @@
-// What a script does to its buffer outside the operations. Each of the three that can miss the buffer says whether it was done.
+// What a script does to its buffer outside the operations. Each of those that can miss the buffer says whether it was done.
 
 pub(crate) fn fill(buffer: &mut [u8], byte: u8) {
     let mut i = 0;
@@ -6,6 +6,15 @@ pub(crate) fn fill(buffer: &mut [u8], byte: u8) {
         buffer[i] = byte;
         i += 1;
     }
+}
+
+// The target of a move, as the buffer.
+pub(crate) fn put(buffer: &mut [u8], target: &[u8]) -> bool {
+    if buffer.len() == target.len() {
+        bytes::copy(target, buffer);
+        return true;
+    }
+    false
 }
 
 pub(crate) fn set(buffer: &mut [u8], place: usize, byte: u8) -> bool {

@@ -53,8 +53,38 @@ pub(crate) fn unread_unless(row: &[u8], done: bool) {
 pub(crate) fn tell(row: &[u8], told: Told, buffer: &[u8]) {
     line(row);
     print(b" = ");
-    answer(told);
+    answer(told, false);
     after_answer(buffer);
+}
+
+// The same, with the field number of a record.
+pub(crate) fn tell_version(row: &[u8], told: Told, buffer: &[u8]) {
+    line(row);
+    print(b" = ");
+    answer(told, true);
+    after_answer(buffer);
+}
+
+// The same, with all numbers that a walk was lent.
+pub(crate) fn tell_walk(row: &[u8], told: Told, numbers: &[u32], buffer: &[u8]) {
+    line(row);
+    print(b" = ");
+    answer(told, true);
+    print(b" {");
+    listed(numbers);
+    print(b"}");
+    after_answer(buffer);
+}
+
+fn listed(numbers: &[u32]) {
+    let mut i = 0;
+    while i < numbers.len() {
+        if 0 < i {
+            print(b" ");
+        }
+        number(field_of(numbers[i]));
+        i += 1;
+    }
 }
 
 pub(crate) fn tell_table(row: &[u8], told: TableTold, buffer: &[u8]) {
@@ -70,14 +100,20 @@ fn after_answer(buffer: &[u8]) {
     print(b"]\n");
 }
 
-fn answer(told: Told) {
+fn answer(told: Told, with_field: bool) {
     match told {
         Told::Done => print(b"done"),
         Told::Number(n) => number(counted(n)),
-        Told::Record { kind, date } => record(kind, date),
+        Told::Record { kind, field, date } => {
+            if with_field {
+                return field_record(kind, field, date);
+            }
+            record(kind, date)
+        }
         Told::Refused(n) => refused(n),
-        Told::BadRecord(place) => {
-            print(b"refused 11 ");
+        Told::RefusedAt { refusal, place } => {
+            refused(refusal);
+            print(b" ");
             number(counted(place))
         }
     }
@@ -120,6 +156,19 @@ fn field_of(field: u32) -> u64 {
 fn record(kind: Kind, date: Packed) {
     let letter = [codes::letter(kind), b' '];
     print(&letter);
+    year_and_word(date);
+}
+
+// `K FIELD YEAR WORD`.
+fn field_record(kind: Kind, field: u16, date: Packed) {
+    let letter = [codes::letter(kind), b' '];
+    print(&letter);
+    number(word_of(field));
+    print(b" ");
+    year_and_word(date);
+}
+
+fn year_and_word(date: Packed) {
     let year = sign::halves16(date.year);
     if 0 < year.dn {
         print(b"-");

@@ -26,6 +26,21 @@ slice-aggregate-tell c = simp length-take (omega arith)
 slice-aggregate-operate-2 : tie.Need-slice-aggregate-operate-2
 slice-aggregate-operate-2 c = simp length-take (omega arith)
 
+slice-aggregate-tell-version : tie.Need-slice-aggregate-tell-version
+slice-aggregate-tell-version c = simp length-take (omega arith)
+
+slice-aggregate-walk : tie.Need-slice-aggregate-walk
+slice-aggregate-walk c = simp length-take (omega arith)
+
+slice-aggregate-moved : tie.Need-slice-aggregate-moved
+slice-aggregate-moved c = simp length-take (omega arith)
+
+moved-requires : tie.Need-moved-requires
+moved-requires c κs = simp length-take (omega arith, omega arith)
+
+slice-aggregate-operate-3 : tie.Need-slice-aggregate-operate-3
+slice-aggregate-operate-3 c = simp length-take (omega arith)
+
 slice-aggregate-tell-table : tie.Need-slice-aggregate-tell-table
 slice-aggregate-tell-table c = simp length-take (omega arith)
 
@@ -70,10 +85,34 @@ step-spec =
     slice-aggregate-operate-2
     (λ c κs. search needs)
     (λ c. search needs)
+    slice-aggregate-tell-version
+    (λ c κs. search needs)
+    (λ c. search needs)
+    (λ c. search needs)
+    slice-aggregate-walk
+    (λ c κs. search needs)
+    (λ c. search needs)
+    (λ c. search needs)
+    slice-aggregate-moved
+    moved-requires
+    (λ c. search needs)
+    (λ c. search needs)
+    (λ c. search needs)
+    (λ c κs. search needs)
+    (λ c. search needs)
+    (λ c. search needs)
+    slice-aggregate-operate-3
+    (λ c κs. search needs)
+    (λ c. search needs)
     slice-aggregate-tell-table
     (λ c κs. search needs)
     (λ c. search needs)
     (λ c κs. search needs)
+    (λ c. search needs)
+    (λ c. search needs)
+    (λ c. search needs)
+    (λ c. search needs)
+    (λ c. search needs)
     (λ c. search needs)
     (λ c. search needs)
     (λ c. search needs)

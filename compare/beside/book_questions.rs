@@ -7,7 +7,7 @@ use pennyquill::ffi::{Answer, Record};
 use second_reading::book::{self, Refusal};
 use second_reading::kinds::KINDS;
 
-fn told<T>(answer: Result<T, Refusal>, value: impl FnOnce(T) -> u32) -> Answer {
+pub fn told<T>(answer: Result<T, Refusal>, value: impl FnOnce(T) -> u32) -> Answer {
     match answer {
         Ok(given) => Answer {
             refusal: 0,
@@ -21,10 +21,14 @@ fn told<T>(answer: Result<T, Refusal>, value: impl FnOnce(T) -> u32) -> Answer {
             refusal: 11,
             value: place as u32,
         },
+        Err(Refusal::FieldOrMark(place)) => Answer {
+            refusal: 21,
+            value: place as u32,
+        },
     }
 }
 
-fn shown(buffer: &[u8]) -> String {
+pub fn shown(buffer: &[u8]) -> String {
     let first: String = buffer
         .iter()
         .take(20)
@@ -62,7 +66,7 @@ pub fn record(tally: &mut Tally, buffer: &[u8], place: usize) {
     tally.hold(right, port::book_record(buffer, place), asked);
 }
 
-fn code(kind: second_reading::kinds::Kind) -> u32 {
+pub fn code(kind: second_reading::kinds::Kind) -> u32 {
     let place = KINDS.iter().position(|&other| other == kind);
     place.expect("a kind is one of six") as u32 + 1
 }

@@ -25,10 +25,13 @@ mod lines;
 mod long_numbers;
 mod long_texts;
 mod marked_days;
+mod moves;
 mod numbers;
 mod padded;
 mod port;
 mod report;
+mod second_books;
+mod second_damage;
 mod spellings;
 mod table_lookups;
 mod table_questions;
@@ -36,6 +39,8 @@ mod tables;
 mod tally;
 mod texts;
 mod valid_texts;
+mod version_questions;
+mod walks;
 mod words;
 mod years;
 
@@ -45,7 +50,7 @@ use std::process::ExitCode;
 type Subject = fn(Extent, &mut Report);
 
 /// What takes longest comes last.
-const SUBJECTS: [(&str, Subject); 13] = [
+const SUBJECTS: [(&str, Subject); 14] = [
     ("numbers", numbers::run),
     ("fields", fields::run),
     ("texts", texts::run),
@@ -54,6 +59,7 @@ const SUBJECTS: [(&str, Subject); 13] = [
     ("handed_in", handed_in::run),
     ("leaves", leaves::run),
     ("books", books::run),
+    ("books2", second_books::run),
     ("tables", tables::run),
     ("lines", lines::run),
     ("iso", iso_texts::run),

@@ -42,6 +42,55 @@ pub fn book_record(book: &[u8], place: usize) -> Record {
     unsafe { ffi::pq_book_record(book.as_ptr(), book.len(), place) }
 }
 
+pub fn book2_new(book: &mut [u8]) -> Answer {
+    // SAFETY: as above.
+    unsafe { ffi::pq_book2_new(book.as_mut_ptr(), book.len()) }
+}
+
+pub fn book2_check(book: &[u8]) -> Answer {
+    // SAFETY: as above.
+    unsafe { ffi::pq_book2_check(book.as_ptr(), book.len()) }
+}
+
+pub fn book2_append(book: &mut [u8], kind: u32, field: u32, date: u32) -> Answer {
+    // SAFETY: as above.
+    unsafe { ffi::pq_book2_append(book.as_mut_ptr(), book.len(), kind, field, date) }
+}
+
+pub fn book2_record(book: &[u8], place: usize) -> Record {
+    // SAFETY: as above.
+    unsafe { ffi::pq_book2_record(book.as_ptr(), book.len(), place) }
+}
+
+pub fn any_book_check(book: &[u8]) -> Answer {
+    // SAFETY: as above.
+    unsafe { ffi::pq_any_book_check(book.as_ptr(), book.len()) }
+}
+
+pub fn any_book_record(book: &[u8], place: usize) -> Record {
+    // SAFETY: as above.
+    unsafe { ffi::pq_any_book_record(book.as_ptr(), book.len(), place) }
+}
+
+pub fn any_book_records(book: &[u8], place: usize, out: &mut [u32]) -> Answer {
+    let (numbers, room) = (out.as_mut_ptr(), out.len());
+    // SAFETY: as above; two slices, of which the second is ours alone.
+    unsafe { ffi::pq_any_book_records(book.as_ptr(), book.len(), place, numbers, room) }
+}
+
+/// The book is lent as ours alone too, though nothing may be written there: so a change of it would be seen.
+pub fn book_to_2(from: &mut [u8], to: &mut [u8]) -> Answer {
+    let (book, length) = (from.as_mut_ptr(), from.len());
+    // SAFETY: as above.
+    unsafe { ffi::pq_book_to_2(book, length, to.as_mut_ptr(), to.len()) }
+}
+
+pub fn book_to_1(from: &mut [u8], to: &mut [u8]) -> Answer {
+    let (book, length) = (from.as_mut_ptr(), from.len());
+    // SAFETY: as above.
+    unsafe { ffi::pq_book_to_1(book, length, to.as_mut_ptr(), to.len()) }
+}
+
 pub fn table_new(table: &mut [u8]) -> Answer {
     // SAFETY: as above.
     unsafe { ffi::pq_table_new(table.as_mut_ptr(), table.len()) }

@@ -1,11 +1,12 @@
 /* Every function of the boundary on damaged input: texts cut short, kinds and fields and dates that are none, books, tables,
  * ISO texts and padded texts cut and changed at each byte. Each buffer is allocated with exactly its length, so that
  * valgrind sees an access one byte past it. Here it is checked that a refusal changes no byte and gives 0 beside its number
- * (11: a place), that a text fits its room, that what stands after a text, a book or a table stays, that what is told of a
- * table agrees with its bytes, with the full decoder and with the guess, that a date is read from an ISO text exactly where
- * it is written so, that zeros before a number change no answer, and that a date's mark is kept, taken off, refused or not
- * looked at. Prints how many calls there were and a digest of their answers, those of tables, of ISO texts and of padded
- * texts by themselves; the status is 1 after a fault.
+ * (11 and 21: a place), that a text fits its room, that what stands after a text, a book or a table stays, that what is told
+ * of a table agrees with its bytes, with the full decoder and with the guess, that a date is read from an ISO text exactly
+ * where it is written so, that zeros before a number change no answer, that a date's mark is kept, taken off, refused or not
+ * looked at, and that what is told of books of both versions agrees with their bytes, there and back too. Prints how many
+ * calls there were and a digest of their answers, those of tables, of ISO texts, of padded texts and of books of both
+ * versions by themselves; the status is 1 after a fault.
  *
  * This file holds main, the counts and the digest, the copies of exact length and the random numbers; damaged.h names what
  * each other file holds. */
@@ -71,8 +72,9 @@ void told(const char *what, uint32_t kind, uint32_t number, uint32_t refusal, ui
     calls++;
     refusals += refusal != 0;
     digest = (digest * 31 + refusal) * 31 + value;
-    int is_known = refusal <= 13 || (refusal == 20 && strcmp(what, "append") == 0);
-    if (!is_known || (refusal != 0 && refusal != 11 && value != 0))
+    int is_of_one = (refusal == 20 && strcmp(what, "append") == 0) || (refusal == 21 && strcmp(what, "to 1") == 0);
+    int has_value = refusal == 0 || refusal == 11 || refusal == 21;
+    if ((refusal > 13 && !is_of_one) || (value != 0 && !has_value))
         fault(what, kind, number);
     if (!is_kind(kind) && refusal != 4)
         fault(what, kind, number);
@@ -98,5 +100,7 @@ int main(void) {
     tell("ISO texts: ");
     padded_texts();
     tell("padded texts: ");
+    book_versions();
+    tell("books of both versions: ");
     return status;
 }

@@ -28,7 +28,8 @@ int is_kind(uint32_t kind);
 uint32_t some_kind(void);
 int32_t some_number(void);
 
-/* What every answer has: a number of the table, 20 of an append alone; 4 where the kind is none; 0 beside a refusal but 11. */
+/* What every answer has: a number of the table, 20 of an append alone and 21 of a move to version 1; 4 where the kind is
+ * none; 0 beside a refusal but 11 and 21. */
 void told(const char *what, uint32_t kind, uint32_t number, uint32_t refusal, uint32_t value);
 
 /* ---- texts.c */
@@ -77,5 +78,14 @@ void iso_texts(void);
 /* ---- padded_texts.c */
 
 void padded_texts(void);
+
+/* ---- book_questions.c */
+
+/* Asks everything of version 2 and of both versions about a buffer. */
+void on_versions(const uint8_t *bytes, size_t length);
+
+/* ---- book_versions.c */
+
+void book_versions(void);
 
 #endif

@@ -1,9 +1,10 @@
-/* The header as C reads it: how large its structs are and where their members lie, and one telling answer of every function.
+/* The header as C reads it: how large its structs are and where their members lie, and one telling answer of every function,
+ * those of books in header_books.c.
  *
  * The proof names members and parameters, and the header binds them by their places, so that two members or two parameters
  * that change places on one side pass the gate. Each answer below would be another then: members and arguments of one call
  * all differ. Prints how many answers were right; the status is 1 where one is not. */
-#include "pennyquill.h"
+#include "header.h"
 #include <stdio.h>
 #include <string.h>
 
@@ -18,25 +19,22 @@ _Static_assert(sizeof(pq_lookup) == 16, "four numbers of 32 bits, as pq_table_lo
 _Static_assert(offsetof(pq_lookup, refusal) == 0 && offsetof(pq_lookup, kind) == 4, "the refusal, then the kind");
 _Static_assert(offsetof(pq_lookup, value) == 8 && offsetof(pq_lookup, guessed) == 12, "then the value and the guess");
 
-enum { R = 1, D, H, U, E, V };
-
 static int right, wrong;
 
-static void tell(const char *what, int holds) {
+void tell(const char *what, int holds) {
     right += holds;
     wrong += !holds;
     if (!holds)
         fprintf(stderr, "header: another answer of %s\n", what);
 }
 
-static uint32_t date(int year, uint32_t month, uint32_t day, uint32_t hour) {
+uint32_t date(int year, uint32_t month, uint32_t day, uint32_t hour) {
     return (uint32_t)(uint16_t)year << 16 | month << 12 | day << 7 | hour << 2;
 }
 
-/* The same date with the mark of a guess. */
-static uint32_t guessed(uint32_t date) { return date | 1; }
+uint32_t guessed(uint32_t date) { return date | 1; }
 
-static void gives(const char *what, pq_answer got, uint32_t refusal, uint32_t value) {
+void gives(const char *what, pq_answer got, uint32_t refusal, uint32_t value) {
     tell(what, got.refusal == refusal && got.value == value);
 }
 
@@ -162,49 +160,6 @@ static void marks(void) {
     writes("pq_write_exchange, guessed", pq_write_exchange, E, guessed(late), "1337-04-01T19");
 }
 
-/* One record, and room for one more; 20 comes last. */
-static void marked_books(void) {
-    const uint8_t one[] = {0, 0, 0, 6, 1, 2, 0x05, 0xA4, 0xB5, 0x80, '#', '#', '#', '#', '#'};
-    uint8_t book[sizeof one];
-    uint32_t day = date(1836, 1, 2, 18);
-    memcpy(book, one, sizeof book);
-    gives("pq_book_append, guessed", pq_book_append(book, sizeof book, V, guessed(day)), 20, 0);
-    gives("pq_book_append, guessed and no room", pq_book_append(book, sizeof book - 1, V, guessed(day)), 12, 0);
-    gives("pq_book_append, mark 2 and no room", pq_book_append(book, sizeof book - 1, V, day | 2), 4, 0);
-    gives("pq_book_append, mark 3", pq_book_append(book, sizeof book, V, day | 3), 4, 0);
-    tell("the bytes of a refused append", memcmp(book, one, sizeof book) == 0);
-    book[4] = 2;
-    gives("pq_book_append, guessed and another version", pq_book_append(book, sizeof book, V, guessed(day)), 10, 0);
-    book[4] = 1;
-    book[9] |= 1;
-    gives("pq_book_check, a mark", pq_book_check(book, sizeof book), 11, 0);
-    gives("pq_book_append, guessed and a mark in the book", pq_book_append(book, sizeof book, V, guessed(day)), 11, 0);
-    book[9] &= 0xFC;
-    gives("pq_book_append, its mark taken off", pq_book_append(book, sizeof book, V, day), 0, 1);
-    book[14] |= 3;
-    pq_record bad = pq_book_record(book, sizeof book, 0);
-    tell("pq_book_record, a mark in the second", bad.refusal == 11 && bad.kind == 0 && bad.value == 1 && bad.field == 0);
-}
-
-static void books(void) {
-    uint8_t book[16];
-    memset(book, '#', sizeof book);
-    gives("pq_book_new", pq_book_new(book, sizeof book), 0, 0);
-    gives("pq_book_append", pq_book_append(book, sizeof book, D, date(1444, 11, 11, 0)), 0, 0);
-    gives("pq_book_append, the second", pq_book_append(book, sizeof book, V, date(1836, 1, 2, 18)), 0, 1);
-    gives("pq_book_append, no room", pq_book_append(book, sizeof book, D, date(1444, 11, 11, 0)), 12, 0);
-    const uint8_t bytes[] = {0, 0, 0, 11, 1, 2, 0x05, 0xA4, 0xB5, 0x80, 6, 0x07, 0x2C, 0x11, 0x48, '#'};
-    tell("the book's bytes", memcmp(book, bytes, sizeof book) == 0);
-    gives("pq_book_check", pq_book_check(book, sizeof book), 0, 2);
-    pq_record second = pq_book_record(book, sizeof book, 1);
-    int is_second = second.kind == V && second.value == date(1836, 1, 2, 18);
-    tell("pq_book_record", second.refusal == 0 && is_second && second.field == 0);
-    book[10] = 7;
-    gives("pq_book_check, a bad record", pq_book_check(book, sizeof book), 11, 1);
-    pq_record bad = pq_book_record(book, sizeof book, 0);
-    tell("pq_book_record, a bad one", bad.refusal == 11 && bad.kind == 0 && bad.value == 1 && bad.field == 0);
-}
-
 static void enters(const char *what, pq_record got, uint32_t refusal, uint32_t kind, uint32_t field) {
     tell(what, got.refusal == refusal && got.kind == kind && got.value == 0 && got.field == field);
 }
@@ -295,7 +250,6 @@ int main(void) {
     texts();
     marks();
     books();
-    marked_books();
     tables();
     printf("%d answers right, %d wrong\n", right, wrong);
     return wrong > 0;

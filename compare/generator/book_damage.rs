@@ -4,7 +4,7 @@ use crate::book_script::{D_RECORD, GREATEST_LENGTH, HEAD, MOST_RECORDS, RECORD, 
 use crate::book_script::{WORD, YEAR, word};
 
 /// Words at both sides of every bound on month, day and hour, and words with each mark.
-const WORDS: [u16; 30] = [
+pub const WORDS: [u16; 30] = [
     word(0, 1, 0),
     word(1, 1, 0),
     word(1, 31, 0),

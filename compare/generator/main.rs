@@ -20,6 +20,7 @@ mod leading;
 mod listing_lines;
 mod listings;
 mod marks;
+mod move_scenes;
 mod numbers;
 mod orders;
 mod padded;
@@ -32,6 +33,10 @@ mod table_scenes;
 mod table_script;
 mod text_edges;
 mod texts;
+mod version_damage;
+mod version_scenes;
+mod version_script;
+mod walk_scenes;
 
 use answers::Answers;
 use std::fs;
@@ -59,6 +64,7 @@ const BOOK_STREAM: u64 = LISTINGS_STREAM + 1;
 const TABLE_STREAM: u64 = BOOK_STREAM + 1;
 const ISO_STREAM: u64 = TABLE_STREAM + 1;
 const UNMARKED_STREAM: u64 = ISO_STREAM + 1;
+const VERSION_STREAM: u64 = UNMARKED_STREAM + 1;
 
 fn main() {
     let folder = std::env::args_os().nth(1).expect("usage: generate FOLDER");
@@ -72,7 +78,9 @@ fn main() {
     for (name, bytes) in listings::write(&folder.join("listing"), LISTINGS_STREAM) {
         println!("listing/{name}: {bytes} bytes");
     }
-    let script = book_scenes::all(BOOK_STREAM) + &table_scenes::all(TABLE_STREAM);
+    let script = book_scenes::all(BOOK_STREAM)
+        + &table_scenes::all(TABLE_STREAM)
+        + &version_scenes::all(VERSION_STREAM);
     fs::write(folder.join("book.script"), &script).expect("the file can be written");
     println!("book.script: {} lines", script.lines().count());
     write_questions(folder, "isos", ISO_STREAM, iso_texts::ask);

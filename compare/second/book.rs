@@ -5,7 +5,7 @@ use crate::kinds::{KINDS, Kind};
 use crate::marks::{self, Mark, Marked};
 
 /// "At most 4,096 records."
-const MOST_RECORDS: usize = 4096;
+pub const MOST_RECORDS: usize = 4096;
 
 /// Refusal 9: a length "over 20,481".
 const GREATEST_LENGTH: usize = 20_481;
@@ -21,9 +21,11 @@ pub enum Refusal {
     Number(u8),
     /// 11 and the place of the first record "that no date of its kind has".
     Record(usize),
+    /// Request #107's 21 and the place of the first "record with a field number or a mark".
+    FieldOrMark(usize),
 }
 
-const fn refused<T>(number: u8) -> Result<T, Refusal> {
+pub const fn refused<T>(number: u8) -> Result<T, Refusal> {
     Err(Refusal::Number(number))
 }
 
@@ -37,7 +39,7 @@ pub struct Record {
 }
 
 impl Record {
-    fn handed_in(self) -> Option<Marked> {
+    pub fn handed_in(self) -> Option<Marked> {
         marks::handed_in(self.kind, self.year, self.word)
     }
 
@@ -58,9 +60,8 @@ impl Record {
     /// The record with these bytes, unless it is one "that no date of its kind has (E hour 23 too,
     /// or an unknown kind)".
     fn from_bytes(bytes: &[u8]) -> Option<Record> {
-        let kind = |&kind: &Kind| number_of(kind) == bytes[0];
         let record = Record {
-            kind: KINDS.into_iter().find(kind)?,
+            kind: kind_of(bytes[0].into())?,
             year: i16::from_be_bytes([bytes[1], bytes[2]]),
             word: u16::from_be_bytes([bytes[3], bytes[4]]),
         };
@@ -80,9 +81,19 @@ pub fn number_of(kind: Kind) -> u8 {
     }
 }
 
+pub fn kind_of(number: u32) -> Option<Kind> {
+    let is_it = |&kind: &Kind| u32::from(number_of(kind)) == number;
+    KINDS.into_iter().find(is_it)
+}
+
 /// Where the record at a place starts; for the number of records, where the book ends.
 fn start(place: usize) -> usize {
     HEAD + place * RECORD
+}
+
+/// The bytes of a book of so many records.
+pub fn room(records: usize) -> usize {
+    start(records)
 }
 
 /// "new (writes an empty book)"; 12 for "new: under 5 bytes".
@@ -128,6 +139,21 @@ pub fn check(buffer: &[u8]) -> Result<usize, Refusal> {
 
 fn record_at(buffer: &[u8], place: usize) -> Option<Record> {
     Record::from_bytes(&buffer[start(place)..start(place + 1)])
+}
+
+/// Every record, in its order.
+pub fn records(buffer: &[u8]) -> Result<Vec<Record>, Refusal> {
+    let count = check(buffer)?;
+    let read: Option<Vec<Record>> = (0..count).map(|place| record_at(buffer, place)).collect();
+    Ok(read.expect("a checked book's records are dates"))
+}
+
+/// The book of these records, in a buffer with room for it; "later bytes are not of it".
+pub fn write(buffer: &mut [u8], records: &[Record]) {
+    write_head(buffer, records.len());
+    for (place, record) in records.iter().enumerate() {
+        buffer[start(place)..start(place + 1)].copy_from_slice(&record.bytes());
+    }
 }
 
 /// "record at a place from 0 (gives its kind and date)". The order is "11, then 12 or 13", so the

@@ -11,17 +11,22 @@
 
 mod agreement;
 mod book;
+mod both_books;
 mod exchange;
 mod iso;
 mod kinds;
 mod listing;
 mod mark_trials;
 mod marks;
+mod moves;
 mod page;
 mod script;
+mod second_book;
 mod table;
 mod table_script;
 mod text;
+mod version_script;
+mod version_trials;
 
 use std::io::{self, Read, Write};
 
@@ -33,6 +38,7 @@ fn main() {
         "example" => {
             agreement::try_kinds();
             mark_trials::try_all();
+            version_trials::try_all();
             page::example().as_bytes().to_vec()
         }
         "listing" => listing::output(&input()),

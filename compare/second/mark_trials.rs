@@ -119,6 +119,7 @@ fn refuses(book: &[u8], numbers: [u8; 4]) {
         match append(&mut buffer, mark) {
             Ok(place) => assert!(number == 0 && place == 1),
             Err(Refusal::Record(place)) => assert!(number == 11 && place == 0),
+            Err(Refusal::FieldOrMark(_)) => panic!("21 is of moves alone"),
             Err(Refusal::Number(refusal)) => assert_eq!(refusal, number),
         }
         assert!(number == 0 || buffer == book);

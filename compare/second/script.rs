@@ -3,7 +3,7 @@
 
 use crate::book::{self, Record, Refusal};
 use crate::kinds::Kind;
-use crate::table_script;
+use crate::{table_script, version_script};
 use std::str::FromStr;
 
 /// The longest buffer that is shown byte for byte.
@@ -23,6 +23,10 @@ fn step(buffer: &mut Vec<u8>, line: &str) -> Option<String> {
     let words: Vec<&str> = line.split(' ').collect();
     if prepare(buffer, &words) {
         return None;
+    }
+    if let ["to", version, room, byte] = words[..] {
+        let told = version_script::moved(buffer, version, number(room), number(byte));
+        return Some(format!("{line} = {told}"));
     }
     let before = buffer.clone();
     let answer = operate(buffer, &words).unwrap_or_else(|refusal| {
@@ -69,6 +73,8 @@ fn operate(buffer: &mut [u8], words: &[&str]) -> Result<String, Refusal> {
             };
             book::append(buffer, record).map(|place| place.to_string())
         }
+        ["second", words @ ..] => version_script::operate_second(buffer, words),
+        ["any", words @ ..] => version_script::operate_any(buffer, words),
         ["table", words @ ..] => table_script::operate(buffer, words).map_err(Refusal::Number),
         _ => panic!("no line of a script: {}", words.join(" ")),
     }
@@ -86,16 +92,17 @@ fn told_record(record: Record) -> String {
     format!("{} {year} {word}", kind.letter())
 }
 
-fn told_refusal(refusal: Refusal) -> String {
+pub fn told_refusal(refusal: Refusal) -> String {
     match refusal {
         Refusal::Number(number) => format!("refused {number}"),
         Refusal::Record(place) => format!("refused 11 {place}"),
+        Refusal::FieldOrMark(place) => format!("refused 21 {place}"),
     }
 }
 
 /// The bytes in hexadecimal, or for a long buffer their number and a sum: of each byte times one
 /// more than its place from 0, modulo 2^32.
-fn shown(buffer: &[u8]) -> String {
+pub fn shown(buffer: &[u8]) -> String {
     if buffer.len() <= LONGEST_SHOWN {
         return buffer.iter().map(|byte| format!("{byte:02x}")).collect();
     }

@@ -7,9 +7,9 @@
  *
  * A date's mark, in bits 0 and 1, tells whether it was guessed: 0 declared, 1 guessed; 2 and 3 are not allowed. A date
  * guessed by pq_guess_number, or by a lookup of a field that is not declared, has the mark 1; one that is read or made in
- * any other way has 0; a sum and the start of a day keep the mark of the date that they start from. Nothing else sees it:
- * two dates that differ in the mark alone are the same date, with the same texts, number and differences. So compare two
- * dates by pq_order, and never by ==.
+ * any other way has 0; a sum and the start of a day keep the mark of the date that they start from, and a book of
+ * version 2 that of each of its dates. Nothing else but a book sees it: two dates that differ in the mark alone are the
+ * same date, with the same texts, number and differences. So compare two dates by pq_order, and never by ==.
  *
  * Every answer has a refusal, 0 where there is none:
  *    1 text over 64 bytes            6 sum outside every date         12 book or new table: no room
@@ -18,8 +18,9 @@
  *      or guess refused             10 book or table: its version        or not allowed
  *    4 not of that kind             11 book: a bad record; value is   15 table: full, or no room for a new entry
  *    5 sum outside 32 bits             the first one's place          16 table: no such field to remove
- *                                                                     20 book of version 1: a guessed date appended
- * At 11 value is the place; at every other refusal all other members are 0. A refusal leaves every byte as it was.
+ *   20 book of version 1: a guessed date appended
+ *   21 book moved back to version 1: a record with a field number or a mark; value is the first one's place
+ * At 11 and 21 value is the place; at any other refusal all other members are 0. A refusal leaves every byte as it was.
  *
  * A text, a buffer, a book or a table is a pointer and the number of bytes there. No byte beyond them is touched; where
  * there are none, any pointer will do. It need not be aligned, and no text ends in a byte 0. No function keeps a pointer,
@@ -48,8 +49,8 @@ typedef struct {
 typedef struct {
     uint32_t refusal;
     uint32_t kind;
-    uint32_t value; /* of a book: the date; at 11 the place. Of a table: 0 */
-    uint32_t field; /* of a book: 0 today. Of a table: the field's number */
+    uint32_t value; /* of a book: the date, with its mark; at 11 the place. Of a table: 0 */
+    uint32_t field; /* the field's number. Of a book: 0 for none, and always in version 1 */
 } pq_record;
 
 typedef struct {
@@ -102,17 +103,63 @@ pq_answer pq_write_iso(uint32_t kind, uint32_t date, uint8_t *out, size_t room);
 pq_answer pq_write_iso_date(uint32_t kind, uint32_t date, uint8_t *out, size_t room);
 pq_answer pq_write_exchange(uint32_t kind, uint32_t date, uint8_t *out, size_t room);
 
-/* A book at the front of a buffer. The value is 0; the number of records; the new record's place.
+/* A book of version 1 at the front of a buffer, of at most 4,096 records. The value is 0; the number of records; the
+   new record's place.
 
-   A book of version 1 takes no mark. A record with any mark in it is 11. A guessed date appended is 20, after 4, 9, 10, 11
-   and 12, so that 20 says that any other date of the kind would have found room; pq_without_mark gives that date without
-   its mark. */
+   A book is refused by 9 where it has under five bytes or its length is 0, over 20,481 or past the buffer's end; by 10
+   for its version; by 9 again where its records are not whole; by 11. Version 2 is 10 in these calls too, or 9 where
+   its length is over 20,481.
+
+   A book of version 1 takes no mark. A record with any mark in it is 11. A guessed date appended is 20, after 4, 9, 10,
+   11 and 12, so that 20 says that any other date of the kind would have found room. Version 2 takes a guessed date as
+   it is; pq_without_mark gives that date without its mark. */
 pq_answer pq_book_new(uint8_t *book, size_t len);
 pq_answer pq_book_check(const uint8_t *book, size_t len);
 pq_answer pq_book_append(uint8_t *book, size_t len, uint32_t kind, uint32_t date);
 
-/* The record at a place, from 0. */
+/* The record at a place, from 0; 13, after the book's own refusals, where there is none. Each call checks the whole
+   book: for a walk there is pq_any_book_records, which checks it once. */
 pq_record pq_book_record(const uint8_t *book, size_t len, size_t place);
+
+/* A book of version 2 likewise, which also keeps the field that a date came from, and the date's mark. A record has
+   seven bytes: kind, field number, year, packed word with mark, all big-endian. Any field number, 0 for none, goes with
+   any kind. Field 500, D 1444.11.11, guessed, alone: 00 00 00 08 02 02 01 F4 05 A4 B5 81.
+
+   Its length is at most 28,673, and up to there any other version is 10. Marks 0 and 1 are both taken, so that nothing
+   is 20; 2 and 3 make a record 11. An append gives 4 first, for a field over 65,535 too, then the book's own refusals,
+   then 12 where it has 4,096 records already or under seven bytes after it. */
+pq_answer pq_book2_new(uint8_t *book, size_t len);
+pq_answer pq_book2_check(const uint8_t *book, size_t len);
+pq_answer pq_book2_append(uint8_t *book, size_t len, uint32_t kind, uint32_t field, uint32_t date);
+pq_record pq_book2_record(const uint8_t *book, size_t len, size_t place);
+
+/* A book of either version: answered by the call of version 2 where the fifth byte is 2, else by that of version 1. So
+   any other version is 10, or 9 where the length is over 20,481. */
+pq_answer pq_any_book_check(const uint8_t *book, size_t len);
+pq_record pq_any_book_record(const uint8_t *book, size_t len, size_t place);
+
+/* Many records of a book of either version over one check of it: those from a place on, as many as there are and as
+   whole fours of out hold. Record place + i is the four numbers from out[4 * i] on: the members of a pq_record in their
+   order, the refusal being 0, so that an array of n of them will do, as 4 * n numbers; out_len counts numbers, not
+   bytes. The value is how many records, and out stays as it was from 4 * value on. A place past the last record gives
+   0, and never 13. 9, 10 and 11 refuse the whole call, and nothing is written. The buffers must not overlap, and out is
+   aligned as C aligns it. */
+pq_answer pq_any_book_records(const uint8_t *book, size_t len, size_t place, uint32_t *out, size_t out_len);
+
+/* The bytes of a book of so many records, of version 1 and of version 2: the room that a move needs. */
+#define PQ_BOOK_ROOM(records) (5 + 5 * (size_t)(records))
+#define PQ_BOOK2_ROOM(records) (5 + 7 * (size_t)(records))
+
+/* Writes a book of one version into the front of a second buffer, as a book of the other; the target's later bytes and
+   the first book stay. The value is the number of records. There and back gives the same bytes. The buffers must not
+   overlap.
+
+   To version 2: version 1 alone, refused as by pq_book_check. Every record gets the field number 0. To version 1:
+   version 2 alone, refused as by pq_book2_check, then by 21 for a record with a field number or a mark, which version 1
+   cannot keep; value is the first one's place. Last comes 12, where room is under PQ_BOOK2_ROOM or PQ_BOOK_ROOM of the
+   records. */
+pq_answer pq_book_to_2(const uint8_t *from, size_t len, uint8_t *to, size_t room);
+pq_answer pq_book_to_1(const uint8_t *from, size_t len, uint8_t *to, size_t room);
 
 /* A table of declared fields at the front of a buffer: which fields of a save are dates, and of which kind. It has at
    most 2,048 entries, in ascending order: a field's number, 1 to 65,535, and its kind, 1, 2, 3, 5 or 6 (U reads no

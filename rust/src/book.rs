@@ -1,7 +1,11 @@
-//! Books: dates of all kinds in one buffer. Not in jomini.
+//! Books of version 1: dates of all kinds in one buffer. Not in jomini.
 //!
 //! Four bytes of length, a version, records of five bytes; at most 4,096 of them. A book fills the first bytes of its
 //! buffer, and an append uses the five after it. A refusal changes no byte.
+//!
+//! [`book2`](crate::book2) has version 2, which also keeps the field that a date came from and takes guessed dates;
+//! [`any_book`](crate::any_book) reads either, goes through many records over one check, and moves books from one
+//! version to the other.
 //!
 //! ```
 //! use pennyquill::{Date, Refusal, Vic3Date, book};
@@ -24,8 +28,19 @@ use crate::{Date, DateHour, Eu5Date, PdsDate, RawDate, UniformDate, Vic3Date};
 /// The bytes of a book of 4,096 records, which is the longest.
 pub const ROOM: usize = 20_485;
 
-/// A date of any kind, as a book has it, or as a [lookup](crate::field_table::lookup) gives it. One that a book has is
-/// never marked as guessed.
+/// The bytes of a book of so many records: the room that [`Book::to_1`](crate::any_book::Book::to_1) needs.
+///
+/// ```
+/// use pennyquill::book;
+/// assert_eq!(book::room(1), 10);
+/// assert_eq!(book::room(4096), book::ROOM);
+/// ```
+pub const fn room(records: usize) -> usize {
+    5 + 5 * records
+}
+
+/// A date of any kind, as a book has it, or as a [lookup](crate::field_table::lookup) gives it. One that a book of
+/// version 1 has is never marked as guessed.
 #[derive(Clone, Copy, Debug, PartialEq, Eq, Hash)]
 pub enum Record {
     /// Kind R.
@@ -59,6 +74,17 @@ impl Record {
             Record::U(date) => date.is_guessed(),
             Record::E(date) => date.is_guessed(),
             Record::V(date) => date.is_guessed(),
+        }
+    }
+
+    pub(crate) fn kind_and_bits(&self) -> (u32, u32) {
+        match self {
+            Record::R(date) => (RawDate::KIND, date.bits()),
+            Record::D(date) => (Date::KIND, date.bits()),
+            Record::H(date) => (DateHour::KIND, date.bits()),
+            Record::U(date) => (UniformDate::KIND, date.bits()),
+            Record::E(date) => (Eu5Date::KIND, date.bits()),
+            Record::V(date) => (Vic3Date::KIND, date.bits()),
         }
     }
 
@@ -110,6 +136,8 @@ pub fn check(book: &[u8]) -> Result<usize, Refusal> {
 
 /// The record at a place, from 0. Refusals as those of [`check`], then 13 where there is none.
 ///
+/// It checks the whole book each time. For many records there is [`Book::records`](crate::any_book::Book::records).
+///
 /// ```
 /// use pennyquill::{Date, Refusal, book};
 /// let bytes = [0, 0, 0, 6, 1, 2, 0x05, 0xA4, 0xB5, 0x80];
@@ -127,8 +155,9 @@ pub fn record(book: &[u8], place: usize) -> Result<Record, Refusal> {
 }
 
 /// Appends a date and gives its place. Refusals as those of [`check`], then 12 where the book has 4,096 records or
-/// there are under five bytes after it, then 20 where the date was guessed: the book cannot tell that it was. Who wants it
-/// there all the same appends it [without its mark](PdsDate::without_mark).
+/// there are under five bytes after it, then 20 where the date was guessed: the book cannot tell that it was. A book of
+/// version 2 can ([`book2::append`](crate::book2::append)); who wants the date here all the same appends it
+/// [without its mark](PdsDate::without_mark).
 ///
 /// ```
 /// use pennyquill::{Date, Refusal, book};

@@ -1,9 +1,10 @@
 //! The C boundary of the proved library, as `include/pennyquill.h` declares it.
 //!
 //! A kind is its code in the book: R 1, D 2, H 3, U 4, E 5, V 6. A date is its year's sixteen bits above its packed
-//! word, with its mark in the two lowest: equal dates may differ there, and are compared by `pq_order`. Refusal 0 means that the value holds the answer; at 11 the value is a place; at every other refusal the
-//! other members are 0. Every function answers whatever it is handed, given that its pointers are valid: each aligned
-//! for its type, good for as many bytes or numbers as the length after it says, and no two of them for the same ones.
+//! word, with its mark in the two lowest: equal dates may differ there, and are compared by `pq_order`. Refusal 0 means
+//! that the value holds the answer; at 11 and 21 the value is a place; at every other refusal the other members are 0.
+//! Every function answers whatever it is handed, given that its pointers are valid: each aligned for its type, good for
+//! as many bytes or numbers as the length after it says, and no two of them for the same ones.
 #![allow(missing_docs)] // the header has them
 
 /// A date, a length, a place, or a number of records, entries or lookups.
@@ -23,7 +24,8 @@ pub struct Number {
 }
 
 /// A record of a book, or an entry of a table. Of a record, `value` is its date, or at refusal 11 the place of the
-/// first bad one, and `field` is 0 today. Of an entry, `value` is 0 and `field` the field's number.
+/// first bad one, and `field` the number of the field that it came from: 0 for none, and in version 1. Of an entry,
+/// `value` is 0 and `field` the field's number.
 #[repr(C)]
 #[derive(Clone, Copy, Debug, PartialEq, Eq)]
 pub struct Record {
@@ -66,6 +68,21 @@ unsafe extern "C" {
     pub fn pq_book_check(b: *const u8, n: usize) -> Answer;
     pub fn pq_book_append(b: *mut u8, n: usize, kind: u32, date: u32) -> Answer;
     pub fn pq_book_record(b: *const u8, n: usize, place: usize) -> Record;
+    pub fn pq_book2_new(b: *mut u8, n: usize) -> Answer;
+    pub fn pq_book2_check(b: *const u8, n: usize) -> Answer;
+    pub fn pq_book2_append(b: *mut u8, n: usize, kind: u32, field: u32, date: u32) -> Answer;
+    pub fn pq_book2_record(b: *const u8, n: usize, place: usize) -> Record;
+    pub fn pq_any_book_check(b: *const u8, n: usize) -> Answer;
+    pub fn pq_any_book_record(b: *const u8, n: usize, place: usize) -> Record;
+    pub fn pq_any_book_records(
+        b: *const u8,
+        n: usize,
+        place: usize,
+        out: *mut u32,
+        out_len: usize,
+    ) -> Answer;
+    pub fn pq_book_to_2(from: *const u8, n: usize, to: *mut u8, room: usize) -> Answer;
+    pub fn pq_book_to_1(from: *const u8, n: usize, to: *mut u8, room: usize) -> Answer;
     pub fn pq_table_new(b: *mut u8, n: usize) -> Answer;
     pub fn pq_table_check(b: *const u8, n: usize) -> Answer;
     pub fn pq_table_declare(b: *mut u8, n: usize, field: u32, kind: u32) -> Answer;

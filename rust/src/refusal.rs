@@ -32,11 +32,12 @@ pub enum Refusal {
     UnreadableLine,
     /// 9: bytes that are no book's, or no table's: under five, or a length that cannot be.
     NotBook,
-    /// 10: a book or a table of another version than 1.
+    /// 10: a book of another version than the call takes, or a table of another than 1.
     WrongVersion,
-    /// 11: a record that no date of its kind has, or with a mark, with the place of the first one, from 0.
+    /// 11: a record that no date of its kind has, or with a mark that its version does not take; with the place of the
+    /// first one, from 0.
     BadRecord(usize),
-    /// 12: no room for a new book or table, or for one more record.
+    /// 12: no room for a new book or table, for one more record, or for a book that is moved.
     NoRoom,
     /// 13: no record, or no entry, at that place.
     NoRecord,
@@ -48,10 +49,13 @@ pub enum Refusal {
     NotThere,
     /// 20: a guessed date for a book of version 1, which takes none.
     GuessedDate,
+    /// 21: a record with a field number or a mark, which version 1 cannot keep, in a book that is moved back to it; with
+    /// the place of the first one, from 0.
+    FieldOrMark(usize),
 }
 
 impl Refusal {
-    /// The number of the refusal: 1 to 16, or 20.
+    /// The number of the refusal: 1 to 16, 20 or 21.
     ///
     /// ```
     /// use pennyquill::{DateHour, Refusal};
@@ -60,6 +64,7 @@ impl Refusal {
     /// assert_eq!(Refusal::BadRecord(7).number(), 11);
     /// assert_eq!(Refusal::NotThere.number(), 16);
     /// assert_eq!(Refusal::GuessedDate.number(), 20);
+    /// assert_eq!(Refusal::FieldOrMark(7).number(), 21);
     /// ```
     pub fn number(self) -> u32 {
         match self {
@@ -80,6 +85,7 @@ impl Refusal {
             Refusal::TableFull => 15,
             Refusal::NotThere => 16,
             Refusal::GuessedDate => 20,
+            Refusal::FieldOrMark(_) => 21,
         }
     }
 
@@ -103,6 +109,7 @@ impl Refusal {
             15 => Refusal::TableFull,
             16 => Refusal::NotThere,
             20 => Refusal::GuessedDate,
+            21 => Refusal::FieldOrMark(value as usize),
             _ => unreachable!("the boundary gives no refusal {number}"),
         }
     }
@@ -122,7 +129,7 @@ impl Refusal {
             Refusal::NotBook => {
                 "the bytes are not those of a book or a table: too few, or a wrong length"
             }
-            Refusal::WrongVersion => "the version of the book or the table is not 1",
+            Refusal::WrongVersion => "the book or the table is of another version",
             Refusal::BadRecord(_) => "no date of its kind has the record",
             Refusal::NoRoom => "the buffer has no room, or the book has 4,096 records already",
             Refusal::NoRecord => "the book or the table has nothing at that place",
@@ -132,6 +139,9 @@ impl Refusal {
             Refusal::TableFull => "the table has 2,048 entries already, or no room for one more",
             Refusal::NotThere => "the table has no such field to remove",
             Refusal::GuessedDate => "a book of version 1 takes no guessed date",
+            Refusal::FieldOrMark(_) => {
+                "version 1 cannot keep the field number or the mark of the record"
+            }
         }
     }
 }
@@ -140,7 +150,9 @@ impl fmt::Display for Refusal {
     fn fmt(&self, f: &mut fmt::Formatter) -> fmt::Result {
         write!(f, "refused {}: {}", self.number(), self.sentence())?;
         match self {
-            Refusal::BadRecord(place) => write!(f, " at place {place}"),
+            Refusal::BadRecord(place) | Refusal::FieldOrMark(place) => {
+                write!(f, " at place {place}")
+            }
             _ => Ok(()),
         }
     }

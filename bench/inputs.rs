@@ -85,12 +85,12 @@ pub fn steps() -> Vec<i32> {
         .collect()
 }
 
-/// A book of 4,096 records of all kinds.
-pub fn full_book() -> Vec<u8> {
+/// A book of version 1, with records of all kinds.
+pub fn book(records: u32) -> Vec<u8> {
     let mut random = Random::new(2);
-    let mut book = 20_481_u32.to_be_bytes().to_vec();
+    let mut book = (1 + 5 * records).to_be_bytes().to_vec();
     book.push(1);
-    for _ in 0..4096 {
+    for _ in 0..records {
         let kind = random.between(1, 6) as u8;
         let hour = if kind == 3 { 12 } else { 0 };
         let word = random.between(1, 12) << 12 | random.between(1, 28) << 7 | hour << 2;
@@ -99,6 +99,22 @@ pub fn full_book() -> Vec<u8> {
         book.extend((word as u16).to_be_bytes());
     }
     book
+}
+
+/// The same dates in a book of version 2: three in four with a field number, half of them guessed.
+pub fn book2(records: u32) -> Vec<u8> {
+    let mut random = Random::new(5);
+    let mut book2 = (1 + 7 * records).to_be_bytes().to_vec();
+    book2.push(2);
+    for record in book(records)[5..].chunks_exact(5) {
+        let some_field = random.between(1, 65_535) as u16;
+        let field = if random.chance(75) { some_field } else { 0 };
+        book2.push(record[0]);
+        book2.extend(field.to_be_bytes());
+        book2.extend(&record[1..4]);
+        book2.push(record[4] | u8::from(random.chance(50)));
+    }
+    book2
 }
 
 /// 2,048 fields in ascending order, each with a kind.

@@ -1,8 +1,10 @@
 //! The port's times beside those of the original, in one run, a line for each task; and the table of docs/SPEED.md over several runs.
 
+mod books;
 mod bounded;
 mod inputs;
 mod measure;
+mod plain_book;
 mod plain_table;
 #[allow(dead_code)] // the generator uses more of it
 #[path = "../compare/generator/random.rs"]

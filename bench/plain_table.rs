@@ -76,11 +76,12 @@ fn bounded_lookup(table: &[(u16, Kind)], field: u32, game: u32, number: i32) -> 
         None => (game, 1, bounded::guessed(game, number)),
     };
     let is_date = u32::from(date.refusal == 0);
+    let mark = guessed * is_date;
     Lookup {
         refusal: date.refusal,
         kind: kind * is_date,
-        value: date.value,
-        guessed: guessed * is_date,
+        value: date.value | mark,
+        guessed: mark,
     }
 }
 

@@ -1,9 +1,10 @@
 //! What is timed.
 
+use crate::books;
 use crate::bounded;
 use crate::inputs::{
-    Day, all_days, days, declared, dotted, dotted_at_noon, dotted_padded, full_book, iso, numbers,
-    questions, steps, table, texts, uniform,
+    Day, all_days, days, declared, dotted, dotted_at_noon, dotted_padded, iso, numbers, questions,
+    steps, table, texts, uniform,
 };
 use crate::measure::{Times, compare};
 use crate::plain_table::{self, Kind};
@@ -30,7 +31,7 @@ pub fn all(show: Show) {
     numbers_read(show);
     writing(show);
     counting(show);
-    check_book(show);
+    books::all(show);
     look_up_each(show);
     look_up_all(show);
 }
@@ -303,18 +304,6 @@ fn subtract<K: Copy>(
     let port = |(one, other): &Pair<K>| ffi::pq_days_until(kind, one.1, other.1);
     let times = compare(&pairs, |(one, other)| until(one.0, &other.0), bounded, port);
     show(&format!("difference of days, {name}"), times);
-}
-
-/// The original has no book: here the second reading of document 01 stands for it.
-fn check_book(show: Show) {
-    let book = [full_book()];
-    let second = |book: &Vec<u8>| second_reading::book::check(book);
-    // SAFETY: the pointer and the length are those of a slice.
-    let port = |book: &Vec<u8>| unsafe { ffi::pq_book_check(book.as_ptr(), book.len()) };
-    show(
-        "check a book of 4,096 records *",
-        compare(&book, second, second, port),
-    );
 }
 
 type Question = (u32, i32);

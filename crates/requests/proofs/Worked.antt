@@ -1,3 +1,4 @@
 -- Worked cases, by computation.
 pub mod Tables
 pub mod IsoTexts
+pub mod Versions

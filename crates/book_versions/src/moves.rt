@@ -32,7 +32,7 @@ const DATE_SIZE: usize = 4;
 const LEAST_SIZE: usize = 5;
 
 // The room that a move needs: the bytes of a book of n records of that size.
-pub fn room_for(n: usize, size: usize) -> usize
+fn room_for(n: usize, size: usize) -> usize
     requires { ⌜ 1 + n * size < 4294967296 ⌝ }
     ensures { λ r. ⌜ r ≡ headSize + n * size ⌝ }
 {

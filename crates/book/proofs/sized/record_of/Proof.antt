@@ -13,6 +13,9 @@ entry-of-requires c κs =
     let p = c .before .before .before .before .pre in
     (p .0, p .1, ap given (sym (c .before .before .check-of .ensures) ∙ ap checkedAs (c .enum-told .given .1)))
 
+returns : tie.Need-returns
+returns c = c .entry-of .ensures
+
 returns-2 : tie.Need-returns-2
 returns-2 c =
     let a = c .before .before .before .before .args in
@@ -47,7 +50,7 @@ record-of-spec =
     (λ c. search needs)
     (λ c. search needs)
     (λ c. search needs)
-    (λ c. c .entry-of .ensures)
+    returns
     returns-2
     returns-3
     returns-4)

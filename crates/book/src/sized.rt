@@ -1,6 +1,6 @@
 // The operations of a book whose records have any size from five bytes on, over that size, the most records, the version byte, and
-// whether its records are plain, without field number and mark: `bookOf` says the format. A record's kind stands in its first byte, its date in its last four, and
-// its field number in the two after the kind where there are seven or more.
+// whether its records are plain, without field number and mark: `bookOf` says the format. A record's kind stands in its first byte, its
+// date in its last four, and its field number in the two after the kind where there are seven or more.
 ghost use mathlib.Core.Path.{_≡_};
 ghost use mathlib.Core.Bool.{true};
 ghost use Prim.Native.Nat.{_+_, _*_, _≤_, _<_};

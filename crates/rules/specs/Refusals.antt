@@ -2,7 +2,7 @@
 use Prim.Native.Nat.{ℕ}
 use mathlib.Core.Bool.{Bool, true, false}
 
--- a value; or a refusal by its number; or, of 11 alone, a refusal with a place
+-- a value; or a refusal by its number; or, of 11, and of 21 of document 02, a refusal with a place
 pub data Answer (A : Type 0) : Type 0 where
   Gives : A → Answer A
   Refused : ℕ → Answer A

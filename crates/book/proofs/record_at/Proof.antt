@@ -6,12 +6,9 @@ use borrow.Author.Needs.{needs}
 use Rattle.book.proofs.record_at.Statement.{statement}
 use Rattle.book.proofs.record_at.Tie as tie
 
-record-of-requires : tie.Need-record-of-requires
-record-of-requires c κs = search needs
-
 returns : tie.Need-returns
 returns c =
     c .record-of .ensures ∙ entry-one (now (c .before .before .args .b)) (c .before .before .args .place)
 
 pub record-at-spec : {M : Type 1} → statement M
-record-at-spec = tie.close (tie.spec record-of-requires returns)
+record-at-spec = tie.close (tie.spec (λ c κs. search needs) returns)

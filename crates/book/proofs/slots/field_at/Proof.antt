@@ -10,21 +10,6 @@ returns : tie.Need-returns
 returns c =
     sym (field-none (now (c .before .before .args .b)) (c .before .before .args .at) (c .before .before .args .size) (c .before .before .pre) (c .if1 .taken))
 
-add-join2 : tie.Need-add-join2
-add-join2 c = search needs
-
-shared-slice-read-join2 : tie.Need-shared-slice-read-join2
-shared-slice-read-join2 c = search needs
-
-add-join2-2 : tie.Need-add-join2-2
-add-join2-2 c = search needs
-
-shared-slice-read-join2-2 : tie.Need-shared-slice-read-join2-2
-shared-slice-read-join2-2 c = search needs
-
-join2-requires : tie.Need-join2-requires
-join2-requires c κs = search needs
-
 returns-2 : tie.Need-returns-2
 returns-2 c =
     c .join2 .ensures ∙ sym (field-there (now (c .before .before .before .before .before .args .b)) (c .before .before .before .before .before .args .at) (c .before .before .before .before .before .args .size) (c .before .before .before .before .before .pre) (c .before .before .before .if1 .left))
@@ -34,9 +19,9 @@ field-at-spec =
     tie.close
     (tie.spec
     returns
-    add-join2
-    shared-slice-read-join2
-    add-join2-2
-    shared-slice-read-join2-2
-    join2-requires
+    (λ c. search needs)
+    (λ c. search needs)
+    (λ c. search needs)
+    (λ c. search needs)
+    (λ c κs. search needs)
     returns-2)

@@ -9,9 +9,6 @@ use borrow.Author.Needs.{needs}
 use Rattle.book.proofs.slots.is_kept.Statement.{statement}
 use Rattle.book.proofs.slots.is_kept.Tie as tie
 
-mark-of-requires : tie.Need-mark-of-requires
-mark-of-requires c κs = search needs
-
 returns : tie.Need-returns
 returns c =
     rw (c .before .before .if1 .taken, eq-eqb (c .before .before .before .args .field) noField (c .before .if2 .taken)) (ap (λ (m : ℕ). eqb m noMark) (c .mark-of .ensures))
@@ -19,8 +16,5 @@ returns c =
 returns-2 : tie.Need-returns-2
 returns-2 c = rw (c .before .if1 .taken, ne-eqb (c .before .before .args .field) noField (c .if2 .left))
 
-returns-3 : tie.Need-returns-3
-returns-3 c = search needs
-
 pub is-kept-spec : {M : Type 1} → statement M
-is-kept-spec = tie.close (tie.spec mark-of-requires returns returns-2 returns-3)
+is-kept-spec = tie.close (tie.spec (λ c κs. search needs) returns returns-2 (λ c. search needs))

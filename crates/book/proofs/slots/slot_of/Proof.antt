@@ -24,34 +24,10 @@ year c = held w16 (c .year-of-twos .ok) ∙ c .year-of-twos .ensures ∙ ap year
 kind : (c : tie.After-is-kept) → kindOfCode (c .before .before .before .before .before .before .before .before .args .code) ≡ Gives (kindOf (c .before .before .before .before .before .coded .given .0 .0))
 kind c = sym (c .before .before .before .before .before .before .before .kind-of-code .ensures) ∙ ap codedAs (c .before .before .before .before .before .coded .given .1)
 
-kind-of-code-requires : tie.Need-kind-of-code-requires
-kind-of-code-requires c κs = search needs
-
-enum-known-coded : tie.Need-enum-known-coded
-enum-known-coded c = search needs
-
-join2-requires : tie.Need-join2-requires
-join2-requires c κs = search needs
-
-year-of-twos-requires : tie.Need-year-of-twos-requires
-year-of-twos-requires c κs = search needs
-
-join2-requires-2 : tie.Need-join2-requires-2
-join2-requires-2 c κs = search needs
-
-is-kept-requires : tie.Need-is-kept-requires
-is-kept-requires c κs = search needs
-
-is-of-kind-requires : tie.Need-is-of-kind-requires
-is-of-kind-requires c κs = search needs
-
 returns : tie.Need-returns
 returns c =
     let m = c .before .before .before in
     sym (of-kind _ _ _ _ _ _ _ (kind m) (year (m .before .before)) (c .before .before .before .before .join22 .ensures) (sym (c .before .before .before .is-kept .ensures) ∙ c .before .before .if1 .taken) (sym (c .before .is-of-kind .ensures) ∙ c .if2 .taken))
-
-enum-told : tie.Need-enum-told
-enum-told c = search needs
 
 returns-2 : tie.Need-returns-2
 returns-2 c =
@@ -71,15 +47,15 @@ pub slot-of-spec : {M : Type 1} → statement M
 slot-of-spec =
     tie.close
     (tie.spec
-    kind-of-code-requires
-    enum-known-coded
-    join2-requires
-    year-of-twos-requires
-    join2-requires-2
-    is-kept-requires
-    is-of-kind-requires
+    (λ c κs. search needs)
+    (λ c. search needs)
+    (λ c κs. search needs)
+    (λ c κs. search needs)
+    (λ c κs. search needs)
+    (λ c κs. search needs)
+    (λ c κs. search needs)
     returns
-    enum-told
+    (λ c. search needs)
     returns-2
     returns-3
     returns-4)

@@ -6,18 +6,9 @@ use borrow.Author.Needs.{needs}
 use Rattle.book_versions.proofs.any.check.Statement.{statement}
 use Rattle.book_versions.proofs.any.check.Tie as tie
 
-is-second-requires : tie.Need-is-second-requires
-is-second-requires c κs = search needs
-
-check-requires : tie.Need-check-requires
-check-requires c κs = search needs
-
 returns : tie.Need-returns
 returns c =
     c .check .ensures ∙ check-as-two (now (c .before .before .before .before .args .b)) (c .before .before .is-second .ensures) (c .before .if1 .taken)
-
-check-requires-2 : tie.Need-check-requires-2
-check-requires-2 c κs = search needs
 
 returns-2 : tie.Need-returns-2
 returns-2 c =
@@ -25,4 +16,4 @@ returns-2 c =
 
 pub check-spec : {M : Type 1} → statement M
 check-spec =
-    tie.close (tie.spec is-second-requires check-requires returns check-requires-2 returns-2)
+    tie.close (tie.spec (λ c κs. search needs) (λ c κs. search needs) returns (λ c κs. search needs) returns-2)

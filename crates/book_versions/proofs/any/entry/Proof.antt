@@ -7,9 +7,6 @@ use borrow.Author.Needs.{needs}
 use Rattle.book_versions.proofs.any.entry.Statement.{statement}
 use Rattle.book_versions.proofs.any.entry.Tie as tie
 
-is-second-requires : tie.Need-is-second-requires
-is-second-requires c κs = search needs
-
 entry-requires : tie.Need-entry-requires
 entry-requires c κs =
     ap given (check-as-two (now (c .before .before .before .args .b)) (c .before .is-second .ensures) (c .if1 .taken)) ∙ c .before .before .before .pre
@@ -28,4 +25,4 @@ returns-2 c =
 
 pub entry-spec : {M : Type 1} → statement M
 entry-spec =
-    tie.close (tie.spec is-second-requires entry-requires returns entry-requires-2 returns-2)
+    tie.close (tie.spec (λ c κs. search needs) entry-requires returns entry-requires-2 returns-2)

@@ -9,11 +9,5 @@ use Rattle.book_versions.proofs.any.is_second.Tie as tie
 returns : tie.Need-returns
 returns c = no-version (now (c .before .args .b)) (omega arith)
 
-shared-slice-read-result : tie.Need-shared-slice-read-result
-shared-slice-read-result c = search needs
-
-returns-2 : tie.Need-returns-2
-returns-2 c = search needs
-
 pub is-second-spec : {M : Type 1} → statement M
-is-second-spec = tie.close (tie.spec returns shared-slice-read-result returns-2)
+is-second-spec = tie.close (tie.spec returns (λ c. search needs) (λ c. search needs))

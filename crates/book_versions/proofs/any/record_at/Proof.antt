@@ -6,18 +6,9 @@ use borrow.Author.Needs.{needs}
 use Rattle.book_versions.proofs.any.record_at.Statement.{statement}
 use Rattle.book_versions.proofs.any.record_at.Tie as tie
 
-is-second-requires : tie.Need-is-second-requires
-is-second-requires c κs = search needs
-
-record-at-requires : tie.Need-record-at-requires
-record-at-requires c κs = search needs
-
 returns : tie.Need-returns
 returns c =
     c .record-at .ensures ∙ entry-as-two (now (c .before .before .before .before .args .b)) (c .before .before .is-second .ensures) (c .before .if1 .taken) (c .before .before .before .before .args .place)
-
-record-at-requires-2 : tie.Need-record-at-requires-2
-record-at-requires-2 c κs = search needs
 
 returns-2 : tie.Need-returns-2
 returns-2 c =
@@ -26,4 +17,4 @@ returns-2 c =
 pub record-at-spec : {M : Type 1} → statement M
 record-at-spec =
     tie.close
-    (tie.spec is-second-requires record-at-requires returns record-at-requires-2 returns-2)
+    (tie.spec (λ c κs. search needs) (λ c κs. search needs) returns (λ c κs. search needs) returns-2)

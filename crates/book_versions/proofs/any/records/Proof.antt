@@ -16,18 +16,6 @@ use borrow.Author.Needs.{needs}
 use Rattle.book_versions.proofs.any.records.Statement.{statement}
 use Rattle.book_versions.proofs.any.records.Tie as tie
 
-check-requires : tie.Need-check-requires
-check-requires c κs = search needs
-
-enum-known-checked : tie.Need-enum-known-checked
-enum-known-checked c = search needs
-
-left-after-requires : tie.Need-left-after-requires
-left-after-requires c κs = search needs
-
-least-requires : tie.Need-least-requires
-least-requires c κs = search needs
-
 put-records-requires : tie.Need-put-records-requires
 put-records-requires c κs =
     let a = c .before .before .before .before .before .before .before .before .before .args in
@@ -36,18 +24,6 @@ put-records-requires c κs =
     let room = least-second (n - a .place) (length (now (a .out)) / 4) in
     let count : c .before .least .result ≡ least (n - a .place) (length (now (a .out)) / 4) = c .before .least .ensures ∙ ap (λ x. least x (length (now (a .out)) / 4)) (c .before .before .left-after .ensures) in
     (ap given (sym (ap checkedAs (sym (c .before .before .before .before .checked .given .1)) ∙ c .before .before .before .before .before .before .check .ensures)), (omega arith, omega arith))
-
-enum-told : tie.Need-enum-told
-enum-told c = search needs
-
-enum-told-2 : tie.Need-enum-told-2
-enum-told-2 c = search needs
-
-enum-known-checked-2 : tie.Need-enum-known-checked-2
-enum-known-checked-2 c = search needs
-
-same-length : tie.Need-same-length
-same-length c = search needs
 
 returns : tie.Need-returns
 unfolding walkedOver
@@ -74,15 +50,15 @@ pub records-spec : {M : Type 1} → statement M
 records-spec =
     tie.close
     (tie.spec
-    check-requires
-    enum-known-checked
-    left-after-requires
-    least-requires
+    (λ c κs. search needs)
+    (λ c. search needs)
+    (λ c κs. search needs)
+    (λ c κs. search needs)
     put-records-requires
-    enum-told
-    enum-told-2
-    enum-known-checked-2
-    same-length
+    (λ c. search needs)
+    (λ c. search needs)
+    (λ c. search needs)
+    (λ c. search needs)
     returns
     returns-2
     returns-3

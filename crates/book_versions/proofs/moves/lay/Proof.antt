@@ -10,9 +10,6 @@ use borrow.Author.Needs.{needs}
 use Rattle.book_versions.proofs.moves.lay.Statement.{statement}
 use Rattle.book_versions.proofs.moves.lay.Tie as tie
 
-room-for-requires : tie.Need-room-for-requires
-room-for-requires c κs = search needs
-
 returns : tie.Need-returns
 returns c =
     let a = c .before .before .before .before .args in
@@ -56,7 +53,7 @@ pub lay-spec : {M : Type 1} → statement M
 lay-spec =
     tie.close
     (tie.spec
-    room-for-requires
+    (λ c κs. search needs)
     returns
     mul-put-length
     add-put-length

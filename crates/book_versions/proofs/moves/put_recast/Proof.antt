@@ -11,45 +11,9 @@ use borrow.Author.Needs.{needs}
 use Rattle.book_versions.proofs.moves.put_recast.Statement.{statement}
 use Rattle.book_versions.proofs.moves.put_recast.Tie as tie
 
-shared-slice-read-to : tie.Need-shared-slice-read-to
-shared-slice-read-to c = search needs
-
-slice-write-to : tie.Need-slice-write-to
-slice-write-to c = search needs
-
-add-zero : tie.Need-add-zero
-add-zero c = search needs
-
-sub-zero : tie.Need-sub-zero
-sub-zero c = search needs
-
 zero-requires : tie.Need-zero-requires
 zero-requires c κs =
     rw (length-set (now (c .before .before .before .before .args .to)) (c .before .before .before .before .args .target)) (omega (arith, c .before .before .before .before .pre))
-
-add-date : tie.Need-add-date
-add-date c = search needs
-
-sub-date : tie.Need-sub-date
-sub-date c = search needs
-
-add-put : tie.Need-add-put
-add-put c = search needs
-
-sub-put : tie.Need-sub-put
-sub-put c = search needs
-
-add-put-2 : tie.Need-add-put-2
-add-put-2 c = search needs
-
-sub-put-2 : tie.Need-sub-put-2
-sub-put-2 c = search needs
-
-part-put-start : tie.Need-part-put-start
-part-put-start c = search needs
-
-part-put-end : tie.Need-part-put-end
-part-put-end c = search needs
 
 put-requires : tie.Need-put-requires
 put-requires c κs =
@@ -77,19 +41,19 @@ pub put-recast-spec : {M : Type 1} → statement M
 put-recast-spec =
     tie.close
     (tie.spec
-    shared-slice-read-to
-    slice-write-to
-    add-zero
-    sub-zero
+    (λ c. search needs)
+    (λ c. search needs)
+    (λ c. search needs)
+    (λ c. search needs)
     zero-requires
-    add-date
-    sub-date
-    add-put
-    sub-put
-    add-put-2
-    sub-put-2
-    part-put-start
-    part-put-end
+    (λ c. search needs)
+    (λ c. search needs)
+    (λ c. search needs)
+    (λ c. search needs)
+    (λ c. search needs)
+    (λ c. search needs)
+    (λ c. search needs)
+    (λ c. search needs)
     put-requires
     same-length
     returns)

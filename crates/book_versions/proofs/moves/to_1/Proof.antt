@@ -15,12 +15,6 @@ use borrow.Author.Needs.{needs}
 use Rattle.book_versions.proofs.moves.to_1.Statement.{statement}
 use Rattle.book_versions.proofs.moves.to_1.Tie as tie
 
-check-requires : tie.Need-check-requires
-check-requires c κs = search needs
-
-enum-known-checked : tie.Need-enum-known-checked
-enum-known-checked c = search needs
-
 first-bad-requires : tie.Need-first-bad-requires
 first-bad-requires c κs =
     let s = now (c .before .before .before .before .before .before .args .from) in
@@ -37,18 +31,6 @@ lay-requires c κs =
     let s = now (c .before .before .before .before .before .before .before .before .before .args .from) in
     let e = sym (c .before .before .before .before .before .before .check .ensures) ∙ ap checkedAs (c .before .before .before .before .checked .given .1) in
     ((omega arith, ones-fit version2 version2-sensible s _ e), (omega arith, omega (arith, ones-few version2 version2-sensible s _ e)))
-
-enum-told : tie.Need-enum-told
-enum-told c = search needs
-
-enum-told-2 : tie.Need-enum-told-2
-enum-told-2 c = search needs
-
-enum-known-checked-2 : tie.Need-enum-known-checked-2
-enum-known-checked-2 c = search needs
-
-same-length : tie.Need-same-length
-same-length c = search needs
 
 returns-2 : tie.Need-returns-2
 returns-2 c =
@@ -73,15 +55,15 @@ pub to-1-spec : {M : Type 1} → statement M
 to-1-spec =
     tie.close
     (tie.spec
-    check-requires
-    enum-known-checked
+    (λ c κs. search needs)
+    (λ c. search needs)
     first-bad-requires
     returns
     lay-requires
-    enum-told
-    enum-told-2
-    enum-known-checked-2
-    same-length
+    (λ c. search needs)
+    (λ c. search needs)
+    (λ c. search needs)
+    (λ c. search needs)
     returns-2
     returns-3
     returns-4

@@ -13,29 +13,11 @@ use borrow.Author.Needs.{needs}
 use Rattle.book_versions.proofs.moves.to_2.Statement.{statement}
 use Rattle.book_versions.proofs.moves.to_2.Tie as tie
 
-check-requires : tie.Need-check-requires
-check-requires c κs = search needs
-
-enum-known-checked : tie.Need-enum-known-checked
-enum-known-checked c = search needs
-
 lay-requires : tie.Need-lay-requires
 lay-requires c κs =
     let s = now (c .before .before .before .before .before .before .before .args .from) in
     let e = sym (c .before .before .before .before .check .ensures) ∙ ap checkedAs (c .before .before .checked .given .1) in
     ((omega arith, ones-fit version1 version1-sensible s _ e), (omega arith, omega (arith, ones-few version1 version1-sensible s _ e)))
-
-enum-told : tie.Need-enum-told
-enum-told c = search needs
-
-enum-told-2 : tie.Need-enum-told-2
-enum-told-2 c = search needs
-
-enum-known-checked-2 : tie.Need-enum-known-checked-2
-enum-known-checked-2 c = search needs
-
-same-length : tie.Need-same-length
-same-length c = search needs
 
 returns : tie.Need-returns
 returns c =
@@ -60,13 +42,13 @@ pub to-2-spec : {M : Type 1} → statement M
 to-2-spec =
     tie.close
     (tie.spec
-    check-requires
-    enum-known-checked
+    (λ c κs. search needs)
+    (λ c. search needs)
     lay-requires
-    enum-told
-    enum-told-2
-    enum-known-checked-2
-    same-length
+    (λ c. search needs)
+    (λ c. search needs)
+    (λ c. search needs)
+    (λ c. search needs)
     returns
     returns-2
     returns-3

@@ -13,23 +13,11 @@ use borrow.Author.Needs.{needs}
 use Rattle.book_versions.proofs.second.append.Statement.{statement}
 use Rattle.book_versions.proofs.second.append.Tie as tie
 
-is-of-kind-requires : tie.Need-is-of-kind-requires
-is-of-kind-requires c κs = search needs
-
-bytes-of-requires : tie.Need-bytes-of-requires
-bytes-of-requires c κs = search needs
-
-slice-aggregate-append-record : tie.Need-slice-aggregate-append-record
-slice-aggregate-append-record c = search needs
-
 append-record-requires : tie.Need-append-record-requires
 append-record-requires c κs =
     let a = c .before .before .before .before .before .before .args in
     let long : length (c .before .before .bytes-of .result) ≡ 7 = ap length (c .before .before .bytes-of .ensures) ∙ field-entry-long (kindOf (a .kind)) (a .field) (bitsOf (a .date)) in
     (omega arith, omega arith)
-
-same-length : tie.Need-same-length
-same-length c = search needs
 
 returns : tie.Need-returns
 returns c =
@@ -49,10 +37,10 @@ pub append-spec : {M : Type 1} → statement M
 append-spec =
     tie.close
     (tie.spec
-    is-of-kind-requires
-    bytes-of-requires
-    slice-aggregate-append-record
+    (λ c κs. search needs)
+    (λ c κs. search needs)
+    (λ c. search needs)
     append-record-requires
-    same-length
+    (λ c. search needs)
     returns
     returns-2)

@@ -6,11 +6,8 @@ use borrow.Author.Needs.{needs}
 use Rattle.book_versions.proofs.second.check.Statement.{statement}
 use Rattle.book_versions.proofs.second.check.Tie as tie
 
-check-of-requires : tie.Need-check-of-requires
-check-of-requires c κs = search needs
-
 returns : tie.Need-returns
 returns c = c .check-of .ensures ∙ check-two (now (c .before .before .args .b))
 
 pub check-spec : {M : Type 1} → statement M
-check-spec = tie.close (tie.spec check-of-requires returns)
+check-spec = tie.close (tie.spec (λ c κs. search needs) returns)

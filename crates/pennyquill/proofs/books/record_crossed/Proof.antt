@@ -4,47 +4,8 @@ use borrow.Author.Needs.{needs}
 use Rattle.pennyquill.proofs.books.record_crossed.Statement.{statement}
 use Rattle.pennyquill.proofs.books.record_crossed.Tie as tie
 
-enum-known-found : tie.Need-enum-known-found
-enum-known-found c = search needs
-
-kind-code-requires : tie.Need-kind-code-requires
-kind-code-requires c κs = search needs
-
-cast-t8 : tie.Need-cast-t8
-cast-t8 c = search needs
-
-date-number-requires : tie.Need-date-number-requires
-date-number-requires c κs = search needs
-
-cast-t10 : tie.Need-cast-t10
-cast-t10 c = search needs
-
-enum-told : tie.Need-enum-told
-enum-told c = search needs
-
-no-record-requires : tie.Need-no-record-requires
-no-record-requires c κs = search needs
-
-enum-told-2 : tie.Need-enum-told-2
-enum-told-2 c = search needs
-
-no-record-requires-2 : tie.Need-no-record-requires-2
-no-record-requires-2 c κs = search needs
-
-enum-known-found-2 : tie.Need-enum-known-found-2
-enum-known-found-2 c = search needs
-
 cast-no-record : tie.Need-cast-no-record
 cast-no-record c = omega (arith, rw (c .before .found2 .given .1) at (c .before .before .before .pre))
-
-no-record-requires-3 : tie.Need-no-record-requires-3
-no-record-requires-3 c κs = search needs
-
-enum-told-3 : tie.Need-enum-told-3
-enum-told-3 c = search needs
-
-no-record-requires-4 : tie.Need-no-record-requires-4
-no-record-requires-4 c κs = search needs
 
 returns : tie.Need-returns
 returns c =
@@ -66,20 +27,20 @@ pub record-crossed-spec : {M : Type 1} → statement M
 record-crossed-spec =
     tie.close
     (tie.spec
-    enum-known-found
-    kind-code-requires
-    cast-t8
-    date-number-requires
-    cast-t10
-    enum-told
-    no-record-requires
-    enum-told-2
-    no-record-requires-2
-    enum-known-found-2
+    (λ c. search needs)
+    (λ c κs. search needs)
+    (λ c. search needs)
+    (λ c κs. search needs)
+    (λ c. search needs)
+    (λ c. search needs)
+    (λ c κs. search needs)
+    (λ c. search needs)
+    (λ c κs. search needs)
+    (λ c. search needs)
     cast-no-record
-    no-record-requires-3
-    enum-told-3
-    no-record-requires-4
+    (λ c κs. search needs)
+    (λ c. search needs)
+    (λ c κs. search needs)
     returns
     returns-2
     returns-3

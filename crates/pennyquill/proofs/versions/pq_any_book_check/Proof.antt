@@ -8,9 +8,6 @@ use borrow.Author.Needs.{needs}
 use Rattle.pennyquill.proofs.versions.pq_any_book_check.Statement.{statement}
 use Rattle.pennyquill.proofs.versions.pq_any_book_check.Tie as tie
 
-check-requires : tie.Need-check-requires
-check-requires c κs = search needs
-
 count-crossed-requires : tie.Need-count-crossed-requires
 count-crossed-requires c κs =
     let s = now (c .before .before .args .book) in rw (c .check .ensures) (check-small (both s) (either s) s)
@@ -19,4 +16,4 @@ returns : tie.Need-returns
 returns c = c .count-crossed .ensures ∙ ap crossed (c .before .check .ensures)
 
 pub pq-any-book-check-spec : {M : Type 1} → statement M
-pq-any-book-check-spec = tie.close (tie.spec check-requires count-crossed-requires returns)
+pq-any-book-check-spec = tie.close (tie.spec (λ c κs. search needs) count-crossed-requires returns)

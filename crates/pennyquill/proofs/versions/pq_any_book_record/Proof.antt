@@ -8,9 +8,6 @@ use borrow.Author.Needs.{needs}
 use Rattle.pennyquill.proofs.versions.pq_any_book_record.Statement.{statement}
 use Rattle.pennyquill.proofs.versions.pq_any_book_record.Tie as tie
 
-record-at-requires : tie.Need-record-at-requires
-record-at-requires c κs = search needs
-
 record-crossed-requires : tie.Need-record-crossed-requires
 record-crossed-requires c κs =
     let s = now (c .before .before .args .book) in rw (c .record-at .ensures) (record-small (both s) (either s) s _)
@@ -19,4 +16,4 @@ returns : tie.Need-returns
 returns c = c .record-crossed .ensures ∙ ap recordCrossed (c .before .record-at .ensures)
 
 pub pq-any-book-record-spec : {M : Type 1} → statement M
-pq-any-book-record-spec = tie.close (tie.spec record-at-requires record-crossed-requires returns)
+pq-any-book-record-spec = tie.close (tie.spec (λ c κs. search needs) record-crossed-requires returns)

@@ -6,14 +6,8 @@ use borrow.Author.Needs.{needs}
 use Rattle.pennyquill.proofs.versions.pq_any_book_records.Statement.{statement}
 use Rattle.pennyquill.proofs.versions.pq_any_book_records.Tie as tie
 
-records-requires : tie.Need-records-requires
-records-requires c κs = search needs
-
 count-crossed-requires : tie.Need-count-crossed-requires
 count-crossed-requires c κs = rw (c .before .before .records .ensures .0) (walk-small _ _ _)
-
-same-length : tie.Need-same-length
-same-length c = search needs
 
 returns : tie.Need-returns
 returns c =
@@ -21,4 +15,4 @@ returns c =
 
 pub pq-any-book-records-spec : {M : Type 1} → statement M
 pq-any-book-records-spec =
-    tie.close (tie.spec records-requires count-crossed-requires same-length returns)
+    tie.close (tie.spec (λ c κs. search needs) count-crossed-requires (λ c. search needs) returns)

@@ -11,44 +11,17 @@ use borrow.Author.Needs.{needs}
 use Rattle.pennyquill.proofs.versions.pq_book2_append.Statement.{statement}
 use Rattle.pennyquill.proofs.versions.pq_book2_append.Tie as tie
 
-kind-of-code-requires : tie.Need-kind-of-code-requires
-kind-of-code-requires c κs = search needs
-
-enum-known-kind : tie.Need-enum-known-kind
-enum-known-kind c = search needs
-
-enum-told : tie.Need-enum-told
-enum-told c = search needs
-
-not-of-kind-requires : tie.Need-not-of-kind-requires
-not-of-kind-requires c κs = search needs
-
 returns : tie.Need-returns
 unfolding appendAnswer appendBuffer fieldEntryFor
 returns c =
     rw (by-code (c .before .before .before .kind-of-code .ensures) (c .before .enum-told .given .1)) (c .not-of-kind .ensures, refl)
 
-date-in-requires : tie.Need-date-in-requires
-date-in-requires c κs = search needs
-
-cast-append : tie.Need-cast-append
-cast-append c = search needs
-
-append-requires : tie.Need-append-requires
-append-requires c κs = search needs
-
 place-crossed-requires : tie.Need-place-crossed-requires
 place-crossed-requires c κs = rw (c .before .before .append .ensures .0) (append-small version2 two _ _ (two-handed _ _ _))
-
-same-length : tie.Need-same-length
-same-length c = search needs
 
 returns-2 : tie.Need-returns-2
 returns-2 c =
     rw (field-entry-code _ _ _ (by-code (c .before .before .before .before .before .before .before .before .before .before .kind-of-code .ensures) (c .before .before .before .before .before .before .before .before .kind .given .1)), ← c .before .before .before .before .before .date-in .ensures) (c .place-crossed .ensures ∙ ap crossed (c .before .before .before .append .ensures .0), c .before .before .before .append .ensures .1)
-
-not-of-kind-requires-2 : tie.Need-not-of-kind-requires-2
-not-of-kind-requires-2 c κs = search needs
 
 returns-3 : tie.Need-returns-3
 unfolding appendAnswer appendBuffer fieldEntryFor
@@ -59,16 +32,16 @@ pub pq-book2-append-spec : {M : Type 1} → statement M
 pq-book2-append-spec =
     tie.close
     (tie.spec
-    kind-of-code-requires
-    enum-known-kind
-    enum-told
-    not-of-kind-requires
+    (λ c κs. search needs)
+    (λ c. search needs)
+    (λ c. search needs)
+    (λ c κs. search needs)
     returns
-    date-in-requires
-    cast-append
-    append-requires
+    (λ c κs. search needs)
+    (λ c. search needs)
+    (λ c κs. search needs)
     place-crossed-requires
-    same-length
+    (λ c. search needs)
     returns-2
-    not-of-kind-requires-2
+    (λ c κs. search needs)
     returns-3)

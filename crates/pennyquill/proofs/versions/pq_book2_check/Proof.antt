@@ -7,9 +7,6 @@ use borrow.Author.Needs.{needs}
 use Rattle.pennyquill.proofs.versions.pq_book2_check.Statement.{statement}
 use Rattle.pennyquill.proofs.versions.pq_book2_check.Tie as tie
 
-check-requires : tie.Need-check-requires
-check-requires c κs = search needs
-
 count-crossed-requires : tie.Need-count-crossed-requires
 count-crossed-requires c κs = rw (c .check .ensures) (check-small version2 two _)
 
@@ -17,4 +14,4 @@ returns : tie.Need-returns
 returns c = c .count-crossed .ensures ∙ ap crossed (c .before .check .ensures)
 
 pub pq-book2-check-spec : {M : Type 1} → statement M
-pq-book2-check-spec = tie.close (tie.spec check-requires count-crossed-requires returns)
+pq-book2-check-spec = tie.close (tie.spec (λ c κs. search needs) count-crossed-requires returns)

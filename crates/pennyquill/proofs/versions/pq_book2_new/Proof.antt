@@ -5,18 +5,9 @@ use borrow.Author.Needs.{needs}
 use Rattle.pennyquill.proofs.versions.pq_book2_new.Statement.{statement}
 use Rattle.pennyquill.proofs.versions.pq_book2_new.Tie as tie
 
-new-requires : tie.Need-new-requires
-new-requires c κs = search needs
-
-start-crossed-requires : tie.Need-start-crossed-requires
-start-crossed-requires c κs = search needs
-
-same-length : tie.Need-same-length
-same-length c = search needs
-
 returns : tie.Need-returns
 returns c =
     (c .start-crossed .ensures ∙ ap crossed (c .before .before .before .new .ensures .0), c .before .before .before .new .ensures .1)
 
 pub pq-book2-new-spec : {M : Type 1} → statement M
-pq-book2-new-spec = tie.close (tie.spec new-requires start-crossed-requires same-length returns)
+pq-book2-new-spec = tie.close (tie.spec (λ c κs. search needs) (λ c κs. search needs) (λ c. search needs) returns)

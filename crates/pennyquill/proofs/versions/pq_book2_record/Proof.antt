@@ -7,9 +7,6 @@ use borrow.Author.Needs.{needs}
 use Rattle.pennyquill.proofs.versions.pq_book2_record.Statement.{statement}
 use Rattle.pennyquill.proofs.versions.pq_book2_record.Tie as tie
 
-record-at-requires : tie.Need-record-at-requires
-record-at-requires c κs = search needs
-
 record-crossed-requires : tie.Need-record-crossed-requires
 record-crossed-requires c κs = rw (c .record-at .ensures) (record-small version2 two _ _)
 
@@ -17,4 +14,4 @@ returns : tie.Need-returns
 returns c = c .record-crossed .ensures ∙ ap recordCrossed (c .before .record-at .ensures)
 
 pub pq-book2-record-spec : {M : Type 1} → statement M
-pq-book2-record-spec = tie.close (tie.spec record-at-requires record-crossed-requires returns)
+pq-book2-record-spec = tie.close (tie.spec (λ c κs. search needs) record-crossed-requires returns)

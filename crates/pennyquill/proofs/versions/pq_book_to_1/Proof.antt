@@ -8,18 +8,12 @@ use borrow.Author.Needs.{needs}
 use Rattle.pennyquill.proofs.versions.pq_book_to_1.Statement.{statement}
 use Rattle.pennyquill.proofs.versions.pq_book_to_1.Tie as tie
 
-to-1-requires : tie.Need-to-1-requires
-to-1-requires c κs = search needs
-
 move-crossed-requires : tie.Need-move-crossed-requires
 move-crossed-requires c κs = rw (c .before .before .to-1 .ensures .0) (move-small version2 two _ downward _)
-
-same-length : tie.Need-same-length
-same-length c = search needs
 
 returns : tie.Need-returns
 returns c =
     (c .move-crossed .ensures ∙ ap crossed (c .before .before .before .to-1 .ensures .0), c .before .before .before .to-1 .ensures .1)
 
 pub pq-book-to-1-spec : {M : Type 1} → statement M
-pq-book-to-1-spec = tie.close (tie.spec to-1-requires move-crossed-requires same-length returns)
+pq-book-to-1-spec = tie.close (tie.spec (λ c κs. search needs) move-crossed-requires (λ c. search needs) returns)

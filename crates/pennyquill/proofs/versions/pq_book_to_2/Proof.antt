@@ -8,18 +8,12 @@ use borrow.Author.Needs.{needs}
 use Rattle.pennyquill.proofs.versions.pq_book_to_2.Statement.{statement}
 use Rattle.pennyquill.proofs.versions.pq_book_to_2.Tie as tie
 
-to-2-requires : tie.Need-to-2-requires
-to-2-requires c κs = search needs
-
 move-crossed-requires : tie.Need-move-crossed-requires
 move-crossed-requires c κs = rw (c .before .before .to-2 .ensures .0) (move-small version1 one _ upward _)
-
-same-length : tie.Need-same-length
-same-length c = search needs
 
 returns : tie.Need-returns
 returns c =
     (c .move-crossed .ensures ∙ ap crossed (c .before .before .before .to-2 .ensures .0), c .before .before .before .to-2 .ensures .1)
 
 pub pq-book-to-2-spec : {M : Type 1} → statement M
-pq-book-to-2-spec = tie.close (tie.spec to-2-requires move-crossed-requires same-length returns)
+pq-book-to-2-spec = tie.close (tie.spec (λ c κs. search needs) move-crossed-requires (λ c. search needs) returns)

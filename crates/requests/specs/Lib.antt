@@ -6,3 +6,5 @@ pub mod Fours
 pub mod Second
 pub mod Both
 pub mod Moves
+pub mod Gaps
+pub mod GapReport

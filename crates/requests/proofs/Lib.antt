@@ -7,4 +7,6 @@ pub mod OnFours
 pub mod OnSecond
 pub mod OnBoth
 pub mod OnMoves
+pub mod OnGaps
+pub mod OnGapReport
 pub mod Worked

@@ -2,3 +2,4 @@
 pub mod Tables
 pub mod IsoTexts
 pub mod Versions
+pub mod GapReports

@@ -29,11 +29,11 @@ none-bad test [] p = zero-le
 none-bad test (r ∷ rs) p = let h = none-bad test rs (p .1) in rw (p .0) (omega arith)
 
 -- a change of each
-module _ (P : List ℕ → Type 0) (change : List ℕ → List ℕ) where
-  pub each-changed : (Q : List ℕ → Type 0) → ((r : List ℕ) → P r → Q (change r)) → (rs : List (List ℕ)) → Each P rs → Each Q (map change rs)
+module _ {A B : Type 0} (P : A → Type 0) (change : A → B) where
+  pub each-changed : (Q : B → Type 0) → ((r : A) → P r → Q (change r)) → (rs : List A) → Each P rs → Each Q (map change rs)
   each-changed Q f [] p = tt
   each-changed Q f (r ∷ rs) p = (f r (p .0), each-changed Q f rs (p .1))
 
-  pub changed-back : (back : List ℕ → List ℕ) → ((r : List ℕ) → P r → back (change r) ≡ r) → (rs : List (List ℕ)) → Each P rs → map back (map change rs) ≡ rs
+  pub changed-back : (back : B → A) → ((r : A) → P r → back (change r) ≡ r) → (rs : List A) → Each P rs → map back (map change rs) ≡ rs
   changed-back back f [] p = refl
   changed-back back f (r ∷ rs) p = rw (f r (p .0), changed-back back f rs (p .1))

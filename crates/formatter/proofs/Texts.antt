@@ -3,10 +3,11 @@ use mathlib.Core.Path.{_≡_, refl, sym, ap, _∙_}
 use mathlib.Core.Bool.{true}
 use mathlib.Core.List.{List, _++_}
 use Prim.Native.Nat.{ℕ, _≤_, zero-le}
+use native.Mathlib.Nat.{le-refl}
 use native.Mathlib.Omega.{arith}
 use borrow.Author.Tests.{le-leb}
 use lib.ListN.{length, take, drop}
-use lib.Seq.{take-at}
+use lib.Seq.{take-at, take-all}
 use Rattle.rules.specs.Refusals.{Answer, Gives, Refused, _then_, given, notOfKind}
 use Rattle.rules.specs.Kinds.{Kind, Fields, Stored, ofKind, unpacked, handed, ofDate}
 use Rattle.rules.specs.Spelling.{putAnswer, putBuffer}
@@ -60,3 +61,7 @@ fits k d texts l₀ l r g room short done =
 -- it is what is taken from the front
 pub taken : (t r l : List ℕ) (n : ℕ) → n ≡ length t → l ≡ t ++ r → take n l ≡ t
 taken t r l n k e = ap (take n) e ∙ take-at t r n (sym k)
+
+-- a text that was built in a room of its own, and copied
+pub copied : (t source l₀ l : List ℕ) → source ≡ t → l ≡ take (length source) source ++ drop (length source) l₀ → l ≡ t ++ drop (length t) l₀
+copied t source l₀ l p q = (rw p at q) ∙ ap (λ (x : List ℕ). x ++ drop (length t) l₀) (take-all (length t) t (le-refl (length t)))

@@ -1,10 +1,12 @@
 // The texts of a date, into a buffer that the caller lends: dotted, ISO, exchange, and E's ISO date alone.
 ghost use mathlib.Core.Path.{_≡_};
+ghost use mathlib.Core.Bool.{true};
 ghost use Prim.Native.Nat.{_≤_, _<_};
 ghost use lib.ListN.{length};
-ghost use Rattle.rules.specs.Refusals.{Gives};
-ghost use Rattle.rules.specs.Kinds.{ofDate};
+ghost use Rattle.rules.specs.Refusals.{Gives, given};
+ghost use Rattle.rules.specs.Kinds.{unpacked, handed, ofDate};
 ghost use Rattle.rules.specs.Spelling.{hasIsoDate, dotted, iso, exchange, isoDateAlone, putAnswer, putBuffer};
+ghost use Rattle.digits.specs.Places.{placed};
 ghost use Rattle.kinds.specs.Views.{kindOf, bitsOf};
 ghost use Rattle.formatter.specs.Pieces.{textOf};
 ghost use Rattle.formatter.specs.Views.{spelledAs, lengthOf};
@@ -62,6 +64,20 @@ pub fn game_fmt(kind: Kind, date: Packed, out: &mut [u8]) -> Spelled
             put_text(out, year, styles::dotted_style(kind), f.month, f.day, hour)
         }
         Opened::NotOfKind => Spelled::NotOfKind,
+    }
+}
+
+// The dotted text of a date of the kind. It is never refused: the date is one of the kind, and no text has over 15 bytes.
+pub fn put_dotted(out: &mut [u8], kind: Kind, date: Packed) -> usize
+    requires { ⌜ (15 ≤ length (now out)) × (given (handed (kindOf kind) (bitsOf date)) ≡ true) ⌝ }
+    ensures { λ r. ⌜ (r ≡ length (dotted (kindOf kind) (unpacked (bitsOf date)))) × (r ≤ 15) ⌝ }
+    ensures { λ _. ⌜ now (out .exit) ≡ placed (dotted (kindOf kind) (unpacked (bitsOf date))) (now (out .entry)) ⌝ }
+{
+    let text = game_fmt(kind, date, out);
+    match text {
+        Spelled::Length(n) => n,
+        Spelled::NotOfKind => 0,
+        Spelled::Short => 0,
     }
 }
 

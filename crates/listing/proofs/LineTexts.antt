@@ -1,10 +1,8 @@
 -- The printed lines byte by byte. Assumes nothing.
-use mathlib.Core.Path.{_≡_, sym, ap, _∙_}
+use mathlib.Core.Path.{_≡_, sym, ap}
 use mathlib.Core.List.{List, [], _∷_, _++_}
 use Prim.Native.Nat.{ℕ, _<_}
-use lib.ListN.{length, take, drop}
-use lib.Seq.{take-all}
-use native.Mathlib.Nat.{le-refl}
+use lib.ListN.{length, drop}
 use Rattle.rules.specs.Words.{bytes}
 use Rattle.rules.specs.Spelling.{digit}
 use Rattle.rules.specs.Listing.{refusedText, lineEnd}
@@ -17,8 +15,3 @@ refusal-line front n h = rw (one-digit n h)
 -- a text placed in a buffer, under another name of it
 pub placed-as : (l : List ℕ) {t u : List ℕ} → t ≡ u → u ++ drop (length u) l ≡ t ++ drop (length t) l
 placed-as l e = ap (λ (x : List ℕ). x ++ drop (length x) l) (sym e)
-
--- ---- a text that was built in a room of its own, and copied
-
-pub copied : (t source l₀ l : List ℕ) → source ≡ t → l ≡ take (length source) source ++ drop (length source) l₀ → l ≡ t ++ drop (length t) l₀
-copied t source l₀ l p q = (rw p at q) ∙ ap (λ (x : List ℕ). x ++ drop (length t) l₀) (take-all (length t) t (le-refl (length t)))

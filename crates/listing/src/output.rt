@@ -6,7 +6,7 @@ ghost use Prim.Native.Nat.{_≤_, _<_};
 ghost use lib.ListN.{length};
 ghost use Rattle.rules.specs.Refusals.{given};
 ghost use Rattle.rules.specs.Kinds.{unpacked, handed};
-ghost use Rattle.rules.specs.Spelling.{dotted, iso};
+ghost use Rattle.rules.specs.Spelling.{iso};
 ghost use Rattle.rules.specs.Listing.{refusedText, lineEnd};
 ghost use Rattle.kinds.specs.Views.{kindOf, bitsOf};
 ghost use Rattle.digits.specs.Places.{placed};
@@ -28,21 +28,7 @@ pub(crate) fn put_refused(out: &mut [u8], front: u8, n: u8) -> usize
     12
 }
 
-// The dotted text of a date of the kind. It is never refused: the date is one of the kind, and no text has over 15 bytes.
-fn put_dotted(out: &mut [u8], kind: Kind, date: Packed) -> usize
-    requires { ⌜ (15 ≤ length (now out)) × (given (handed (kindOf kind) (bitsOf date)) ≡ true) ⌝ }
-    ensures { λ r. ⌜ (r ≡ length (dotted (kindOf kind) (unpacked (bitsOf date)))) × (r ≤ 15) ⌝ }
-    ensures { λ _. ⌜ now (out .exit) ≡ placed (dotted (kindOf kind) (unpacked (bitsOf date))) (now (out .entry)) ⌝ }
-{
-    let text = formatter::game_fmt(kind, date, out);
-    match text {
-        Spelled::Length(n) => n,
-        Spelled::NotOfKind => 0,
-        Spelled::Short => 0,
-    }
-}
-
-// The ISO text of a date of the kind, which is never refused either.
+// The ISO text of a date of the kind. It is never refused: the date is one of the kind, and no text has over 15 bytes.
 fn put_iso(out: &mut [u8], kind: Kind, date: Packed) -> usize
     requires { ⌜ (15 ≤ length (now out)) × (given (handed (kindOf kind) (bitsOf date)) ≡ true) ⌝ }
     ensures { λ r. ⌜ (r ≡ length (iso (kindOf kind) (unpacked (bitsOf date)))) × (r ≤ 15) ⌝ }
@@ -64,7 +50,7 @@ pub(crate) fn put_date(out: &mut [u8], kind: Kind, date: Packed) -> usize
 {
     out[0] = codes::letter(kind);
     out[1] = b' ';
-    let space = 2 + put_dotted(&mut out[2..], kind, date);
+    let space = 2 + formatter::put_dotted(&mut out[2..], kind, date);
     out[space] = b' ';
     let iso_at = space + 1;
     let end = iso_at + put_iso(&mut out[iso_at..], kind, date);

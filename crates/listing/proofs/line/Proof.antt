@@ -5,8 +5,7 @@ use borrow.Author.Needs.{needs}
 use denote.Ref.{now}
 use Rattle.rules.specs.Listing.{lineOutput}
 use Rattle.rules.proofs.OnSpelling.WriteLaws.{wrote, wrote-whole, wrote-short}
-use Rattle.formatter.proofs.Texts.{taken}
-use Rattle.listing.proofs.LineTexts.{copied}
+use Rattle.formatter.proofs.Texts.{taken, copied}
 use Rattle.listing.proofs.line.Statement.{statement}
 use Rattle.listing.proofs.line.Tie as tie
 

@@ -1,12 +1,12 @@
--- `listing::output::put_dotted` meets its contract: a date of the kind, and room for its text. Assumes nothing.
+-- `formatter::put_dotted` meets its contract: a date of the kind, and room for its text. Assumes nothing.
 use borrow.Author.Needs.{needs}
 use denote.Ref.{now}
 use Rattle.rules.specs.Spelling.{dotted}
 use Rattle.rules.proofs.OnSpelling.LengthLaws.{text-lengths}
 use Rattle.kinds.specs.Views.{kindOf, bitsOf}
 use Rattle.formatter.proofs.Texts.{fits}
-use Rattle.listing.proofs.output.put_dotted.Statement.{statement}
-use Rattle.listing.proofs.output.put_dotted.Tie as tie
+use Rattle.formatter.proofs.put_dotted.Statement.{statement}
+use Rattle.formatter.proofs.put_dotted.Tie as tie
 
 returns : tie.Need-returns
 returns c =

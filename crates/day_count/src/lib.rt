@@ -36,7 +36,7 @@ pub enum Start {
 }
 
 // D, V and E count days.
-fn counts_days(kind: Kind) -> bool
+pub fn counts_days(kind: Kind) -> bool
     ensures { λ r. ⌜ r ≡ countsDays (kindOf kind) ⌝ }
 {
     match kind {

@@ -267,7 +267,7 @@ pub fn without_mark(kind: Kind, date: Packed) -> Made
 }
 
 // Year, then packed word: the word without its mark, which is no field.
-fn order_of(first: Packed, second: Packed) -> Ordered
+pub fn order_of(first: Packed, second: Packed) -> Ordered
     ensures { λ r. ⌜ orderedAs r ≡ Gives (order (unpacked (bitsOf first)) (unpacked (bitsOf second))) ⌝ }
 {
     let a = first.year;

@@ -8,16 +8,18 @@
  * A date's mark, in bits 0 and 1, tells whether it was guessed: 0 declared, 1 guessed; 2 and 3 are not allowed. A date
  * guessed by pq_guess_number, or by a lookup of a field that is not declared, has the mark 1; one that is read or made in
  * any other way has 0; a sum and the start of a day keep the mark of the date that they start from, and a book of
- * version 2 that of each of its dates. Nothing else but a book sees it: two dates that differ in the mark alone are the
- * same date, with the same texts, number and differences. So compare two dates by pq_order, and never by ==.
+ * version 2 that of each of its dates, which its gap figures give without it. Nothing else but a book sees it: two dates
+ * that differ in the mark alone are the same date, with the same texts, number and differences. So compare two dates by
+ * pq_order, and never by ==.
  *
  * Every answer has a refusal, 0 where there is none:
- *    1 text over 64 bytes            6 sum outside every date         12 book or new table: no room
- *    2 text not of that kind         7 buffer shorter than the text   13 book or table: nothing at that place
- *    3 number not a date,            9 book or table: its length      14 table: an entry or a call out of order
- *      or guess refused             10 book or table: its version        or not allowed
- *    4 not of that kind             11 book: a bad record; value is   15 table: full, or no room for a new entry
- *    5 sum outside 32 bits             the first one's place          16 table: no such field to remove
+ *    1 text over 64 bytes            7 buffer shorter than the text,  13 book or table: nothing at that place
+ *    2 text not of that kind           or too few numbers lent        14 table: an entry or a call out of order
+ *    3 number not a date,            9 book or table: its length         or not allowed
+ *      or guess refused             10 book or table: its version     15 table: full, or no room for a new entry
+ *    4 not of that kind             11 book: a bad record; value is   16 table: no such field to remove
+ *    5 sum outside 32 bits             the first one's place
+ *    6 sum outside every date       12 book or new table: no room
  *   20 book of version 1: a guessed date appended
  *   21 book moved back to version 1: a record with a field number or a mark; value is the first one's place
  * At 11 and 21 value is the place; at any other refusal all other members are 0. A refusal leaves every byte as it was.
@@ -160,6 +162,42 @@ pq_answer pq_any_book_records(const uint8_t *book, size_t len, size_t place, uin
    records. */
 pq_answer pq_book_to_2(const uint8_t *from, size_t len, uint8_t *to, size_t room);
 pq_answer pq_book_to_1(const uint8_t *from, size_t len, uint8_t *to, size_t room);
+
+/* The gap report of a book of either version: of each kind how many records there are, the earliest date and the latest,
+   by pq_order; of D, E and V, which count days, also how far its records lie from one another. A step leads from a
+   record to the next one of its kind in the book, and has the days of pq_days_until between the two, below 0 where it
+   leads back. The longest step is the greatest without its sign. Its place, from 0 and among all records of the book, is
+   that of the record of the two that stands first in the book, and not of the earlier date; of equally long steps the
+   first one's, and where none leads anywhere the kind's first record's. The sum of all steps with their signs is the days
+   from the kind's first record to its last. One record alone has the step 0, its own place and the sum 0. Marks and field
+   numbers are not seen.
+
+   As a text at the front of a buffer: a line for each kind in the order of the codes, each ended by a byte 10. Between
+   single spaces it has the kind's letter, the number of records, the earliest date and the latest, dotted; of D, E and V
+   then the longest step, its place and the sum. A kind with no record has its letter and 0 alone. The value is the
+   text's length: PQ_GAP_ROOM bytes are room for every report, and later bytes stay.
+       R 0
+       D 3 -1.1.1 1444.11.11 527739 1 -10
+       H 0
+       U 1 1444.02.30 1444.02.30
+       E 1 1444.11.11.3 1444.11.11.3 0 5 0
+       V 1 1836.2.3.6 1836.2.3.6 0 0 0
+
+   As numbers: PQ_GAP_NUMBERS of them, six for each kind; out_len counts numbers, not bytes. PQ_GAP(kind, column) is the
+   place of one in out: of D's latest date PQ_GAP(2, PQ_GAP_LATEST). A date is one number, as everywhere, with the mark 0.
+   The sum alone may be below 0. A kind with no record has six times 0; of R, H and U, which count no days, step, place
+   and sum are 0. The value is PQ_GAP_NUMBERS, and later numbers stay.
+
+   Both refuse as pq_any_book_check does: 9, 10, 11 with the place; then, last, 7 where room is under the text's length,
+   or out_len under PQ_GAP_NUMBERS. At a refusal nothing is written. The book is checked once and gone through once for
+   each kind, so that twice the records take twice the time. The buffers must not overlap, and out of the figures is
+   aligned as C aligns it. */
+#define PQ_GAP_ROOM 306
+#define PQ_GAP_NUMBERS 36
+#define PQ_GAP(kind, column) (6 * ((size_t)(kind) - 1) + (size_t)(column))
+enum { PQ_GAP_COUNT, PQ_GAP_EARLIEST, PQ_GAP_LATEST, PQ_GAP_STEP, PQ_GAP_PLACE, PQ_GAP_SUM };
+pq_answer pq_gap_report(const uint8_t *book, size_t len, uint8_t *out, size_t room);
+pq_answer pq_gap_figures(const uint8_t *book, size_t len, int64_t *out, size_t out_len);
 
 /* A table of declared fields at the front of a buffer: which fields of a save are dates, and of which kind. It has at
    most 2,048 entries, in ascending order: a field's number, 1 to 65,535, and its kind, 1, 2, 3, 5 or 6 (U reads no

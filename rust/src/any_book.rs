@@ -17,7 +17,7 @@
 //! # Ok::<(), Refusal>(())
 //! ```
 //!
-//! Books are written by [`book`] and [`book2`].
+//! Books are written by [`book`] and [`book2`]; what their dates span is told by [`gaps`](crate::gaps).
 
 use crate::bits::given;
 use crate::book2::Entry;

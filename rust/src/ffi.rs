@@ -7,7 +7,7 @@
 //! as many bytes or numbers as the length after it says, and no two of them for the same ones.
 #![allow(missing_docs)] // the header has them
 
-/// A date, a length, a place, or a number of records, entries or lookups.
+/// A date, a length, a place, or a number of records, entries, lookups or figures.
 #[repr(C)]
 #[derive(Clone, Copy, Debug, PartialEq, Eq)]
 pub struct Answer {
@@ -83,6 +83,8 @@ unsafe extern "C" {
     ) -> Answer;
     pub fn pq_book_to_2(from: *const u8, n: usize, to: *mut u8, room: usize) -> Answer;
     pub fn pq_book_to_1(from: *const u8, n: usize, to: *mut u8, room: usize) -> Answer;
+    pub fn pq_gap_report(b: *const u8, n: usize, out: *mut u8, room: usize) -> Answer;
+    pub fn pq_gap_figures(b: *const u8, n: usize, out: *mut i64, out_len: usize) -> Answer;
     pub fn pq_table_new(b: *mut u8, n: usize) -> Answer;
     pub fn pq_table_check(b: *const u8, n: usize) -> Answer;
     pub fn pq_table_declare(b: *mut u8, n: usize, field: u32, kind: u32) -> Answer;

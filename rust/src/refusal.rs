@@ -26,7 +26,7 @@ pub enum Refusal {
     SumTooLarge,
     /// 6: a sum of days that is in no year of 16 bits.
     NoSuchDay,
-    /// 7: a buffer shorter than the text.
+    /// 7: a buffer shorter than the text. Across the boundary of [`ffi`](crate::ffi) also too few numbers lent.
     ShortBuffer,
     /// 8: a line of `datelist` that is unreadable. No function of this crate reads one.
     UnreadableLine,

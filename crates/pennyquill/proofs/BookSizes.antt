@@ -73,7 +73,7 @@ pub record Modest {A : Type 0} (format : Format A) : Type 0 where
   pub entries : (r : List ℕ) → Small Any (format .entry r)
 
 module _ {A : Type 0} (format : Format A) (modest : Modest format) (s : List ℕ) where
-  records-small : Small FewRecords (records format s)
+  pub records-small : Small FewRecords (records format s)
   unfolding records
   records-small =
       small-then FewRecords FewRecords (framed (format .frame) s) _ (framed-small (format .frame) s (modest .sensible) (modest .few))

@@ -1,4 +1,5 @@
 pub mod Laws
 pub mod Sizes
 pub mod BookSizes
+pub mod GapSizes
 pub mod TableLaws

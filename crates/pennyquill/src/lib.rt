@@ -4,6 +4,7 @@ mod books;
 mod crossing;
 mod dates;
 mod days;
+mod gaps;
 mod tables;
 mod texts;
 mod versions;

@@ -14,6 +14,8 @@ mod dates;
 mod differences;
 mod digits;
 mod fields;
+mod gap_damage;
+mod gap_scenes;
 mod iso_texts;
 mod julian;
 mod leading;
@@ -65,6 +67,7 @@ const TABLE_STREAM: u64 = BOOK_STREAM + 1;
 const ISO_STREAM: u64 = TABLE_STREAM + 1;
 const UNMARKED_STREAM: u64 = ISO_STREAM + 1;
 const VERSION_STREAM: u64 = UNMARKED_STREAM + 1;
+const GAP_STREAM: u64 = VERSION_STREAM + 1;
 
 fn main() {
     let folder = std::env::args_os().nth(1).expect("usage: generate FOLDER");
@@ -80,7 +83,8 @@ fn main() {
     }
     let script = book_scenes::all(BOOK_STREAM)
         + &table_scenes::all(TABLE_STREAM)
-        + &version_scenes::all(VERSION_STREAM);
+        + &version_scenes::all(VERSION_STREAM)
+        + &gap_scenes::all(GAP_STREAM);
     fs::write(folder.join("book.script"), &script).expect("the file can be written");
     println!("book.script: {} lines", script.lines().count());
     write_questions(folder, "isos", ISO_STREAM, iso_texts::ask);

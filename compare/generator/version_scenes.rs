@@ -1,5 +1,5 @@
-//! The part of book.script that is about books of version 2, about both versions and about moves, its last. The
-//! second reading answers it.
+//! The part of book.script that is about books of version 2, about both versions and about moves. The second
+//! reading answers it.
 
 use crate::book_script::{HEAD, MOST_RECORDS, Script, WORD, YEAR};
 use crate::dates::any_date;

@@ -1,7 +1,8 @@
-//! Lines of book.script about books of version 2, about both versions and about moves, and books to start from.
-//! README.md has the format.
+//! Lines of book.script about books of version 2, about both versions with their report and about moves, and books
+//! to start from. README.md has the format.
 
 use crate::book_script::{HEAD, MOST_RECORDS, Script, WORD, YEAR, word};
+use crate::gap_scenes::FIGURES;
 use crate::kinds::{Fields, Kind};
 
 /// The bytes of a record of version 2, and where its field, its word and the mark in it stand.
@@ -66,6 +67,21 @@ impl Script {
     /// The walk from a place on, into room for so many numbers.
     pub fn walk(&mut self, place: usize, numbers: usize) {
         self.line(format!("any records {place} {numbers}"));
+    }
+
+    /// The gap report into so many bytes, and its figures into so many numbers.
+    pub fn report(&mut self, room: usize) {
+        self.line(format!("any report {room}"));
+    }
+
+    pub fn figures(&mut self, numbers: usize) {
+        self.line(format!("any figures {numbers}"));
+    }
+
+    /// Both, the figures into as many numbers as they are.
+    pub fn report_and_figures(&mut self, room: usize) {
+        self.report(room);
+        self.figures(FIGURES);
     }
 
     /// A move to a version, into a target of so many bytes.

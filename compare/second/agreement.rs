@@ -1,8 +1,9 @@
-//! Where this reading and the original both say which dates a kind has, or what the ISO text of a
-//! date is, they say the same; and this reading reads that text back.
+//! Where this reading and the original both say which dates a kind has, what the texts of a date are, or how
+//! many days lie between two, they say the same; and this reading reads the ISO text back.
 
+use crate::exchange::dotted_text;
 use crate::kinds::{Fields, Kind, all_of_year};
-use crate::{exchange, iso};
+use crate::{exchange, gaps, iso};
 use eu5save::Eu5Date;
 use jomini::common::{Date, DateHour, PdsDate, RawDate, UniformDate};
 use vic3save::Vic3Date;
@@ -11,7 +12,7 @@ use vic3save::Vic3Date;
 const YEAR: i16 = 1444;
 
 /// Years of both signs and of every width, with the first and the last.
-const ISO_YEARS: [i16; 19] = [
+const YEARS: [i16; 19] = [
     -32768, -10000, -9999, -1000, -999, -100, -99, -10, -9, -5, -1, 0, 5, 99, 999, 1444, 9999,
     10000, 32767,
 ];
@@ -27,7 +28,7 @@ pub fn try_kinds() {
 
 fn try_kind<K: PdsDate>(kind: Kind, parse: impl Fn(&str) -> Option<K>) {
     try_words(kind, &parse);
-    for year in ISO_YEARS {
+    for year in YEARS {
         try_iso_texts(kind, year, &parse);
     }
 }
@@ -43,12 +44,14 @@ fn try_words<K: PdsDate>(kind: Kind, parse: &impl Fn(&str) -> Option<K>) {
     }
 }
 
-/// For every word that is a date of the kind: the ISO text that is spelled here is the original's,
-/// and "R, D, H, U and V come back as the same date. E comes back with the even component of that
+/// For every word that is a date of the kind: the dotted text and the ISO text that are spelled here are the
+/// original's, and "R, D, H, U and V come back as the same date. E comes back with the even component of that
 /// in-game hour".
 fn try_iso_texts<K: PdsDate>(kind: Kind, year: i16, parse: &impl Fn(&str) -> Option<K>) {
     for date in all_of_year(year).filter(|&date| kind.has(date)) {
-        let original = parse(&dotted_text(kind, date)).expect("a date of the original");
+        let dotted = dotted_text(kind, date);
+        let original = parse(&dotted).expect("a date of the original");
+        assert_eq!(original.game_fmt().to_string(), dotted, "{}", kind.letter());
         let text = original.iso_8601().to_string();
         assert_eq!(exchange::iso_text(kind, date), text, "{}", kind.letter());
         let hour = match kind {
@@ -60,20 +63,37 @@ fn try_iso_texts<K: PdsDate>(kind: Kind, year: i16, parse: &impl Fn(&str) -> Opt
     }
 }
 
-/// "Dotted: year.month.day, then .hour if not 0, unpadded; U pads month and day to two."
-fn dotted_text(kind: Kind, date: Fields) -> String {
-    let Fields {
-        year,
-        month,
-        day,
-        hour,
-    } = date;
-    let text = match kind {
-        Kind::U => format!("{year}.{month:02}.{day:02}"),
-        _ => format!("{year}.{month}.{day}"),
-    };
-    match hour {
-        0 => text,
-        _ => format!("{text}.{hour}"),
+/// The days from one date of D, E or V to another, which the original reads and counts.
+pub fn try_days() {
+    try_differences(Kind::D, |from, to| {
+        Some(Date::parse(from).ok()?.days_until(&Date::parse(to).ok()?))
+    });
+    try_differences(Kind::E, |from, to| {
+        Some(
+            Eu5Date::parse(from)
+                .ok()?
+                .days_until(&Eu5Date::parse(to).ok()?),
+        )
+    });
+    try_differences(Kind::V, |from, to| {
+        Some(
+            Vic3Date::parse(from)
+                .ok()?
+                .days_until(&Vic3Date::parse(to).ok()?),
+        )
+    });
+}
+
+/// From the first date of each year to every date of that year and of the next in the list.
+fn try_differences(kind: Kind, days_until: impl Fn(&str, &str) -> Option<i32>) {
+    let dates = |year| all_of_year(year).filter(move |&date| kind.has(date));
+    for (&year, &next) in YEARS.iter().zip(YEARS.iter().cycle().skip(1)) {
+        let first = dates(year).next().expect("a date");
+        for date in dates(year).chain(dates(next)) {
+            let (from, to) = (dotted_text(kind, first), dotted_text(kind, date));
+            let days = gaps::day_number(date) - gaps::day_number(first);
+            let original = days_until(&from, &to).map(i64::from);
+            assert_eq!(original, Some(days), "{} {from} to {to}", kind.letter());
+        }
     }
 }

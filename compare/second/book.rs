@@ -29,6 +29,15 @@ pub const fn refused<T>(number: u8) -> Result<T, Refusal> {
     Err(Refusal::Number(number))
 }
 
+/// `refused` and its number, and the place where it has one.
+pub fn told_refusal(refusal: Refusal) -> String {
+    match refusal {
+        Refusal::Number(number) => format!("refused {number}"),
+        Refusal::Record(place) => format!("refused 11 {place}"),
+        Refusal::FieldOrMark(place) => format!("refused 21 {place}"),
+    }
+}
+
 /// A kind and a date as it is handed in or recorded: a year and a packed word, of a date or not, with its
 /// mark.
 #[derive(Clone, Copy, PartialEq, Eq)]

@@ -12,7 +12,7 @@ pub const NUMBERS: usize = 4;
 
 /// Every record, in its order. "A call that takes both versions uses the length limit of its version byte,
 /// version 1's for any other byte", which then is 10, or 9 beyond that limit. A record of version 1 has no field.
-fn records(buffer: &[u8]) -> Result<Vec<FieldRecord>, Refusal> {
+pub fn records(buffer: &[u8]) -> Result<Vec<FieldRecord>, Refusal> {
     if buffer.get(VERSION_PLACE) == Some(&VERSION) {
         return second_book::records(buffer);
     }

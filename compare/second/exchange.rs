@@ -1,4 +1,4 @@
-//! The exchange text: "Date to text" of document 01, its year by request #105 of document 02.
+//! The texts of a date: "Date to text" of document 01, the exchange text's year by request #105 of document 02.
 //!
 //! Rows of spellings.txt, `K s DATE DOTTED ISO ...`, become rows `K x DATE EXCHANGE`. The ISO text in
 //! the row is the original's; it is held against this reading, which spells both texts alike but
@@ -33,6 +33,24 @@ fn row(spelling: &str) -> String {
         "the original's ISO text"
     );
     format!("{question} {}", exchange_text(kind, date.fields))
+}
+
+/// "Dotted: year.month.day, then .hour if not 0, unpadded; U pads month and day to two."
+pub fn dotted_text(kind: Kind, date: Fields) -> String {
+    let Fields {
+        year,
+        month,
+        day,
+        hour,
+    } = date;
+    let text = match kind {
+        Kind::U => format!("{year}.{month:02}.{day:02}"),
+        _ => format!("{year}.{month}.{day}"),
+    };
+    match hour {
+        0 => text,
+        _ => format!("{text}.{hour}"),
+    }
 }
 
 /// "year zero-filled to width 4, the sign counted (-5 is `-005`)".

@@ -15,7 +15,7 @@ pub enum Kind {
 pub const KINDS: [Kind; 6] = [Kind::R, Kind::D, Kind::H, Kind::U, Kind::E, Kind::V];
 
 /// "Month lengths are 31, 28, 31, 30, 31, 30, 31, 31, 30, 31, 30, 31."
-const MONTH_LENGTHS: [u16; 12] = [31, 28, 31, 30, 31, 30, 31, 31, 30, 31, 30, 31];
+pub const MONTH_LENGTHS: [u16; 12] = [31, 28, 31, 30, 31, 30, 31, 31, 30, 31, 30, 31];
 
 impl Kind {
     pub fn letter(self) -> &'static str {

@@ -3,6 +3,7 @@
 pub mod book;
 pub mod both_books;
 pub mod exchange;
+pub mod gaps;
 pub mod iso;
 pub mod kinds;
 pub mod listing;

@@ -6,6 +6,7 @@
 //!                                          the page or the original says of the same
 //!     second listing < input               what `datelist` writes for the input
 //!     second book < script                 the answers of book operations and table operations
+//!     second gaps < book                   what `gaps` writes for the book
 //!     second isos < questions              the ISO texts of the questions with what is read
 //!     second unmarked < questions          the dates of the questions without their marks
 
@@ -13,6 +14,8 @@ mod agreement;
 mod book;
 mod both_books;
 mod exchange;
+mod gap_trials;
+mod gaps;
 mod iso;
 mod kinds;
 mod listing;
@@ -37,16 +40,19 @@ fn main() {
         "constants" => kinds::constants().into_bytes(),
         "example" => {
             agreement::try_kinds();
+            agreement::try_days();
             mark_trials::try_all();
             version_trials::try_all();
+            gap_trials::try_all();
             page::example().as_bytes().to_vec()
         }
         "listing" => listing::output(&input()),
         "book" => script::run(&input_text()).into_bytes(),
+        "gaps" => gaps::printed(&input()).into_bytes(),
         "isos" => iso::rows(&input_text()).into_bytes(),
         "unmarked" => marks::rows(&input_text()).into_bytes(),
         _ => panic!(
-            "usage: second exchanges | constants | example | listing | book | isos | unmarked"
+            "usage: second exchanges | constants | example | listing | book | gaps | isos | unmarked"
         ),
     };
     io::stdout()

@@ -1,7 +1,7 @@
 //! Runs a script of book operations and table operations and tells their answers. README.md has the
 //! format of both.
 
-use crate::book::{self, Record, Refusal};
+use crate::book::{self, Record, Refusal, told_refusal};
 use crate::kinds::Kind;
 use crate::{table_script, version_script};
 use std::str::FromStr;
@@ -90,14 +90,6 @@ pub fn number<N: FromStr>(word: &str) -> N {
 fn told_record(record: Record) -> String {
     let Record { kind, year, word } = record;
     format!("{} {year} {word}", kind.letter())
-}
-
-pub fn told_refusal(refusal: Refusal) -> String {
-    match refusal {
-        Refusal::Number(number) => format!("refused {number}"),
-        Refusal::Record(place) => format!("refused 11 {place}"),
-        Refusal::FieldOrMark(place) => format!("refused 21 {place}"),
-    }
 }
 
 /// The bytes in hexadecimal, or for a long buffer their number and a sum: of each byte times one

@@ -1,14 +1,20 @@
-//! The lines of a script that are about books of version 2, about both versions, and about moves. README.md has
-//! their format.
+//! The lines of a script that are about books of version 2, about both versions with their report, and about
+//! moves. README.md has their format.
 
-use crate::book::{self, Refusal};
+use crate::book::{self, Refusal, told_refusal};
 use crate::kinds::Kind;
-use crate::script::{number, shown, told_refusal};
+use crate::script::{number, shown};
 use crate::second_book::{self, FieldRecord};
-use crate::{both_books, moves};
+use crate::{both_books, gaps, moves};
 
-/// What each number of a walk's room is before.
+/// What each number of a walk's room is before, and of the report's figures; and each byte of its text's.
 const BEFORE: u32 = 7;
+const FIGURE_BEFORE: i64 = 7;
+const BYTE_BEFORE: u8 = b'~';
+
+/// The most room that a line about the report gives.
+const MOST_ROOM: usize = 400;
+const MOST_NUMBERS: usize = 64;
 
 /// What is told of a line without its first word, `second`.
 pub fn operate_second(buffer: &mut [u8], words: &[&str]) -> Result<String, Refusal> {
@@ -37,6 +43,8 @@ pub fn operate_any(buffer: &[u8], words: &[&str]) -> Result<String, Refusal> {
         ["check"] => both_books::check(buffer).map(told_number),
         ["record", place] => both_books::record(buffer, number(place)).map(told_record),
         ["records", place, numbers] => Ok(walked(buffer, number(place), number(numbers))),
+        ["report", room] => Ok(reported(buffer, number(room))),
+        ["figures", numbers] => Ok(figured(buffer, number(numbers))),
         _ => panic!("no line of a script: any {}", words.join(" ")),
     }
 }
@@ -52,6 +60,36 @@ fn walked(buffer: &[u8], place: usize, numbers: usize) -> String {
         }
     };
     let numbers: Vec<String> = out.iter().map(u32::to_string).collect();
+    format!("{told} {{{}}}", numbers.join(" "))
+}
+
+/// The report's length, or the refusal, and all lent bytes afterwards: byte 10 is shown as `/`.
+fn reported(buffer: &[u8], room: usize) -> String {
+    assert!(room <= MOST_ROOM, "more room than a line may give: {room}");
+    let mut out = vec![BYTE_BEFORE; room];
+    let told = match gaps::report(buffer, &mut out) {
+        Ok(length) => told_number(length),
+        Err(refusal) => {
+            assert!(out.iter().all(|&left| left == BYTE_BEFORE));
+            told_refusal(refusal)
+        }
+    };
+    let text = String::from_utf8(out).expect("a report is text");
+    format!("{told} {{{}}}", text.replace('\n', "/"))
+}
+
+/// How many figures there are, or the refusal, and all lent numbers afterwards.
+fn figured(buffer: &[u8], numbers: usize) -> String {
+    assert!(numbers <= MOST_NUMBERS, "more room than a line may give");
+    let mut out = vec![FIGURE_BEFORE; numbers];
+    let told = match gaps::figures(buffer, &mut out) {
+        Ok(count) => told_number(count),
+        Err(refusal) => {
+            assert!(out.iter().all(|&left| left == FIGURE_BEFORE));
+            told_refusal(refusal)
+        }
+    };
+    let numbers: Vec<String> = out.iter().map(i64::to_string).collect();
     format!("{told} {{{}}}", numbers.join(" "))
 }
 

@@ -1,5 +1,6 @@
 // The lines of a script. A reader that does not find its part answers NOWHERE as the place after it, as those of `rows` do, so
 // that a line is read to its end, and tested once.
+use crate::gap_lines::GapLine;
 use crate::operations::Operation;
 use crate::table_lines;
 use crate::tables::TableOperation;
@@ -36,6 +37,7 @@ pub(crate) enum Line {
         place: usize,
         numbers: usize,
     },
+    Gaps(GapLine),
     Move {
         upward: bool,
         room: usize,

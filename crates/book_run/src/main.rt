@@ -7,6 +7,8 @@ use crate::lines::Line;
 use book_versions::any;
 use libc::STDIN_FILENO;
 
+mod gap_lines;
+mod gaps;
 mod lines;
 mod operations;
 mod setting;
@@ -91,6 +93,10 @@ fn step(row: &[u8], room: &mut [u8], spare: &mut [u8], size: usize) -> usize
         }
         Line::Walk { place, numbers } => {
             walk(row, &room[..size], place, numbers);
+            size
+        }
+        Line::Gaps(asked) => {
+            gaps::tell(row, &room[..size], asked);
             size
         }
         Line::Move {

@@ -5,11 +5,12 @@ use crate::tables::TableTold;
 use kinds::Kind;
 use kinds::Packed;
 use libc::STDOUT_FILENO;
+use sign::Halves;
 
 // The longest buffer that is shown byte for byte.
 const LONGEST_SHOWN: usize = 40;
 
-fn print(text: &[u8]) {
+pub(crate) fn print(text: &[u8]) {
     io::write_all(STDOUT_FILENO, text);
 }
 
@@ -67,11 +68,20 @@ pub(crate) fn tell_version(row: &[u8], told: Told, buffer: &[u8]) {
 
 // The same, with all numbers that a walk was lent.
 pub(crate) fn tell_walk(row: &[u8], told: Told, numbers: &[u32], buffer: &[u8]) {
+    before_lent(row, told);
+    listed(numbers);
+    after_lent(buffer);
+}
+
+// `LINE = ANSWER {`, before all that an operation was lent, and `} [BUFFER]` after it.
+pub(crate) fn before_lent(row: &[u8], told: Told) {
     line(row);
     print(b" = ");
     answer(told, true);
     print(b" {");
-    listed(numbers);
+}
+
+pub(crate) fn after_lent(buffer: &[u8]) {
     print(b"}");
     after_answer(buffer);
 }
@@ -169,15 +179,19 @@ fn field_record(kind: Kind, field: u16, date: Packed) {
 }
 
 fn year_and_word(date: Packed) {
-    let year = sign::halves16(date.year);
-    if 0 < year.dn {
-        print(b"-");
-        number(year.dn);
-    } else {
-        number(year.up);
-    }
+    signed(sign::halves16(date.year));
     print(b" ");
     number(word_of(date.word));
+}
+
+// A number by its halves.
+pub(crate) fn signed(n: Halves) {
+    if 0 < n.dn {
+        print(b"-");
+        number(n.dn);
+    } else {
+        number(n.up);
+    }
 }
 
 fn word_of(word: u16) -> u64 {

@@ -1,4 +1,5 @@
 // The lines of a script that are about version 2, either version and the moves, read as those of `lines` are.
+use crate::gap_lines;
 use crate::lines;
 use crate::lines::Dated;
 use crate::lines::Line;
@@ -75,12 +76,21 @@ fn append_date(row: &[u8], at: usize, kind: Kind) -> Line {
 
 pub(crate) fn any(row: &[u8]) -> Line {
     let at = rows::after_word(row, 0, b"any ");
-    if rows::byte(row, at) == b'c' {
-        return plain(
+    match rows::byte(row, at) {
+        b'c' => plain(
             row,
             rows::after_word(row, at, b"check"),
             VersionOperation::AnyCheck,
-        );
+        ),
+        b'f' => gap_lines::figures(row, at),
+        _ => record_or_report(row, at),
+    }
+}
+
+// By the third letter of the word after `any `.
+fn record_or_report(row: &[u8], at: usize) -> Line {
+    if rows::byte(row, 6) == b'p' {
+        return gap_lines::report(row, at);
     }
     let single = rows::natural(row, rows::after_word(row, at, b"record "));
     if rows::ends(row, single.next) {

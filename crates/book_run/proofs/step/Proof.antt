@@ -32,6 +32,9 @@ slice-aggregate-tell-version c = simp length-take (omega arith)
 slice-aggregate-walk : tie.Need-slice-aggregate-walk
 slice-aggregate-walk c = simp length-take (omega arith)
 
+slice-aggregate-tell-2 : tie.Need-slice-aggregate-tell-2
+slice-aggregate-tell-2 c = simp length-take (omega arith)
+
 slice-aggregate-moved : tie.Need-slice-aggregate-moved
 slice-aggregate-moved c = simp length-take (omega arith)
 
@@ -93,6 +96,10 @@ step-spec =
     (λ c κs. search needs)
     (λ c. search needs)
     (λ c. search needs)
+    slice-aggregate-tell-2
+    (λ c κs. search needs)
+    (λ c. search needs)
+    (λ c. search needs)
     slice-aggregate-moved
     moved-requires
     (λ c. search needs)
@@ -108,6 +115,8 @@ step-spec =
     (λ c κs. search needs)
     (λ c. search needs)
     (λ c κs. search needs)
+    (λ c. search needs)
+    (λ c. search needs)
     (λ c. search needs)
     (λ c. search needs)
     (λ c. search needs)

@@ -1,6 +1,8 @@
 pub mod WalkLaws
 pub mod TallyLaws
-pub mod FigureLaws
-pub mod SixLaws
 pub mod TextLaws
+pub mod SixLaws
+pub mod FigureLaws
 pub mod AnswerLaws
+pub mod Determined
+pub mod Worked

@@ -54,7 +54,7 @@ fn compare(tally: &mut Tally, command: &str, input: &[u8]) {
     }
 }
 
-fn output(command: &str, input: &[u8]) -> Vec<u8> {
+pub fn output(command: &str, input: &[u8]) -> Vec<u8> {
     let mut words = command.split_whitespace();
     let mut program = Command::new(words.next().expect("a command has a word"));
     program

@@ -17,6 +17,10 @@ mod counts;
 mod days;
 mod drawn;
 mod fields;
+mod gap_books;
+mod gap_calls;
+mod gap_questions;
+mod gaps;
 mod generated;
 mod handed_in;
 mod iso_texts;
@@ -50,7 +54,7 @@ use std::process::ExitCode;
 type Subject = fn(Extent, &mut Report);
 
 /// What takes longest comes last.
-const SUBJECTS: [(&str, Subject); 14] = [
+const SUBJECTS: [(&str, Subject); 15] = [
     ("numbers", numbers::run),
     ("fields", fields::run),
     ("texts", texts::run),
@@ -60,6 +64,7 @@ const SUBJECTS: [(&str, Subject); 14] = [
     ("leaves", leaves::run),
     ("books", books::run),
     ("books2", second_books::run),
+    ("gaps", gaps::run),
     ("tables", tables::run),
     ("lines", lines::run),
     ("iso", iso_texts::run),

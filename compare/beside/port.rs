@@ -91,6 +91,19 @@ pub fn book_to_1(from: &mut [u8], to: &mut [u8]) -> Answer {
     unsafe { ffi::pq_book_to_1(book, length, to.as_mut_ptr(), to.len()) }
 }
 
+/// The book is lent as ours alone here too, for the same reason.
+pub fn gap_report(book: &mut [u8], out: &mut [u8]) -> Answer {
+    let (bytes, length) = (book.as_mut_ptr(), book.len());
+    // SAFETY: as above.
+    unsafe { ffi::pq_gap_report(bytes, length, out.as_mut_ptr(), out.len()) }
+}
+
+pub fn gap_figures(book: &mut [u8], out: &mut [i64]) -> Answer {
+    let (bytes, length) = (book.as_mut_ptr(), book.len());
+    // SAFETY: as above.
+    unsafe { ffi::pq_gap_figures(bytes, length, out.as_mut_ptr(), out.len()) }
+}
+
 pub fn table_new(table: &mut [u8]) -> Answer {
     // SAFETY: as above.
     unsafe { ffi::pq_table_new(table.as_mut_ptr(), table.len()) }

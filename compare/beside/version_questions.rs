@@ -23,7 +23,7 @@ fn count(records: usize) -> u32 {
 }
 
 /// The first place where they differ, with the bytes of both there.
-fn hold_bytes(tally: &mut Tally, right: &[u8], port: &[u8], asked: impl FnOnce() -> String) {
+pub fn hold_bytes(tally: &mut Tally, right: &[u8], port: &[u8], asked: impl FnOnce() -> String) {
     let differs = |place: &usize| right[*place] != port[*place];
     let place = if right == port {
         None

@@ -4,9 +4,10 @@
  * (11 and 21: a place), that a text fits its room, that what stands after a text, a book or a table stays, that what is told
  * of a table agrees with its bytes, with the full decoder and with the guess, that a date is read from an ISO text exactly
  * where it is written so, that zeros before a number change no answer, that a date's mark is kept, taken off, refused or not
- * looked at, and that what is told of books of both versions agrees with their bytes, there and back too. Prints how many
- * calls there were and a digest of their answers, those of tables, of ISO texts, of padded texts and of books of both
- * versions by themselves; the status is 1 after a fault.
+ * looked at, that what is told of books of both versions agrees with their bytes, there and back too, and that a gap report
+ * agrees with what the other calls tell of its book. Prints how many calls there were and a digest of their answers, those
+ * of tables, of ISO texts, of padded texts, of books of both versions and of gap reports by themselves; the status is 1
+ * after a fault.
  *
  * This file holds main, the counts and the digest, the copies of exact length and the random numbers; damaged.h names what
  * each other file holds. */
@@ -102,5 +103,7 @@ int main(void) {
     tell("padded texts: ");
     book_versions();
     tell("books of both versions: ");
+    gaps();
+    tell("gap reports: ");
     return status;
 }

@@ -88,4 +88,8 @@ void on_versions(const uint8_t *bytes, size_t length);
 
 void book_versions(void);
 
+/* ---- gaps.c */
+
+void gaps(void);
+
 #endif

@@ -1,5 +1,5 @@
 /* The header as C reads it: how large its structs are and where their members lie, and one telling answer of every function,
- * those of books in header_books.c.
+ * those of books in header_books.c and of gap reports in header_gaps.c.
  *
  * The proof names members and parameters, and the header binds them by their places, so that two members or two parameters
  * that change places on one side pass the gate. Each answer below would be another then: members and arguments of one call
@@ -250,6 +250,7 @@ int main(void) {
     texts();
     marks();
     books();
+    gaps();
     tables();
     printf("%d answers right, %d wrong\n", right, wrong);
     return wrong > 0;

@@ -21,4 +21,8 @@ uint32_t guessed(uint32_t date);
 
 void books(void);
 
+/* ---- header_gaps.c */
+
+void gaps(void);
+
 #endif

@@ -40,7 +40,8 @@ fn check(show: Show) {
     );
 }
 
-fn count(book: &[u8]) -> usize {
+/// The number of its records.
+pub fn count(book: &[u8]) -> usize {
     let size = if book[4] == 2 { 7 } else { 5 };
     (book.len() - 5) / size
 }

@@ -2,9 +2,11 @@
 
 mod books;
 mod bounded;
+mod gaps;
 mod inputs;
 mod measure;
 mod plain_book;
+mod plain_gaps;
 mod plain_table;
 #[allow(dead_code)] // the generator uses more of it
 #[path = "../compare/generator/random.rs"]

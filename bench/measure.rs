@@ -12,6 +12,7 @@ const ROUND_SECONDS: f64 = 0.0003;
 
 /// Nanoseconds for one call, each the median of its rounds: the original called as Rust, the
 /// original behind a boundary like the port's, the port.
+#[derive(Clone, Copy)]
 pub struct Times {
     pub original: f64,
     pub bounded: f64,

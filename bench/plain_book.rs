@@ -5,7 +5,7 @@ use pennyquill::ffi::Record;
 use std::slice;
 
 /// The bytes before the records.
-const HEAD: usize = 5;
+pub const HEAD: usize = 5;
 
 /// The bytes of a record of a version.
 fn size(version: u8) -> usize {
@@ -13,7 +13,7 @@ fn size(version: u8) -> usize {
 }
 
 #[inline(always)]
-fn taken_apart(record: &[u8]) -> Record {
+pub fn taken_apart(record: &[u8]) -> Record {
     let (front, date) = record.split_at(record.len() - 4);
     let field = front[1..].iter();
     Record {

@@ -2,6 +2,7 @@
 
 use crate::books;
 use crate::bounded;
+use crate::gaps;
 use crate::inputs::{
     Day, all_days, days, declared, dotted, dotted_at_noon, dotted_padded, iso, numbers, questions,
     steps, table, texts, uniform,
@@ -32,6 +33,7 @@ pub fn all(show: Show) {
     writing(show);
     counting(show);
     books::all(show);
+    gaps::all(show);
     look_up_each(show);
     look_up_all(show);
 }

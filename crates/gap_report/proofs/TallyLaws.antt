@@ -14,10 +14,10 @@ use Rattle.rules.specs.Days.{dayNumber, countsDays}
 use Rattle.rules.specs.Spelling.{decimalIn, decimal}
 use Rattle.rules.specs.Listing.{letter, lineEnd}
 use Rattle.requests.specs.Gaps.{Placed, dates, earliest, latest, Numbered, numbered, Step, longest, stepsSum, lastOf}
-use Rattle.requests.specs.GapReport.{spaced, kindText, kindLine}
+use Rattle.requests.specs.GapReport.{spaced, stepText, kindText, kindLine}
 use Rattle.requests.proofs.OnEntries.KeepLaws.{either}
 use Rattle.requests.proofs.OnGaps.StepLaws.{steps-sum, last-map, walked, walk-law}
-use Rattle.gap_report.specs.Walk.{Tallied, numberFor, numberedFor, nothing, added, counted, tally, stepText, tallySum, tallyRest, tallyLine}
+use Rattle.gap_report.specs.Walk.{Tallied, numberFor, numberedFor, nothing, added, counted, tally, tallySum, tallyRest, tallyLine}
 use Rattle.gap_report.specs.Figures.{zeros, stepFigures, kindFigures, tallyFigures}
 
 -- ---- the whole walk

@@ -14,7 +14,7 @@ use Rattle.rules.specs.Listing.{letter, lineEnd}
 use Rattle.requests.specs.Second.{FieldEntry}
 use Rattle.requests.specs.Both.{both}
 use Rattle.requests.specs.Gaps.{Placed, placedFrom, earlier, later, Numbered, Step, stepTo, longer}
-use Rattle.requests.specs.GapReport.{spaced, signed, kindLine}
+use Rattle.requests.specs.GapReport.{spaced, stepText, kindLine}
 
 -- ---- the records
 
@@ -109,9 +109,6 @@ tally k t (p ∷ ps) = tally k (counted k t p) ps
 
 abbrev pub tallySum : Tallied → ℤ
 tallySum t = t .last .number -ℤ t .first
-
-abbrev pub stepText : Step → ℤ → List ℕ
-stepText step sum = spaced (decimal (step .long)) ++ spaced (decimal (step .place)) ++ spaced (signed sum)
 
 abbrev pub tallySteps : Tallied → List ℕ
 tallySteps t = stepText (t .longest) (tallySum t)

@@ -13,7 +13,7 @@ use Rattle.rules.specs.Book.{Format, records}
 use Rattle.rules.specs.Listing.{letter, lineEnd, joined}
 use Rattle.requests.specs.Second.{FieldEntry}
 use Rattle.requests.specs.Both.{both}
-use Rattle.requests.specs.Gaps.{Placed, placedFrom, dates, earliest, latest, numbered, longest, stepsSum}
+use Rattle.requests.specs.Gaps.{Placed, placedFrom, dates, earliest, latest, numbered, Step, longest, stepsSum}
 
 -- ---- a line
 
@@ -26,10 +26,11 @@ abbrev pub signed : ℤ → List ℕ
 signed z = plainYear z
 
 -- "then step, place, sum"
+abbrev pub stepText : Step → ℤ → List ℕ
+stepText step sum = spaced (decimal (step .long)) ++ spaced (decimal (step .place)) ++ spaced (signed sum)
+
 abbrev pub stepsText : Placed → List Placed → List ℕ
-stepsText p ps =
-    let step = longest (numbered p) (map numbered ps) in
-    spaced (decimal (step .long)) ++ spaced (decimal (step .place)) ++ spaced (signed (stepsSum (p .date) (dates ps)))
+stepsText p ps = stepText (longest (numbered p) (map numbered ps)) (stepsSum (p .date) (dates ps))
 
 -- "letter, count, dotted earliest and latest", and for D, E and V the steps. "A kind with no record prints its letter and 0"
 unfoldable pub kindText : Kind → List Placed → List ℕ

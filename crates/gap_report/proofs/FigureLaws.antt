@@ -1,6 +1,5 @@
 -- The figures in the lent numbers: six at a time, one kind after the other. Assumes nothing.
 use mathlib.Core.Path.{_≡_, refl, sym, ap, _∙_}
-use mathlib.Core.Bool.{true, false, cond}
 use mathlib.Core.List.{List, [], _∷_, _++_}
 use Prim.Native.Nat.{ℕ, suc, _+_, _*_, _-_, _/_, _≤_}
 use native.Mathlib.Omega.{arith}
@@ -8,7 +7,7 @@ use lib.IntN.{ℤ, pos, subℕ}
 use lib.ListN.{length, take, drop, set, length-append, length-drop}
 use lib.Seq.{sets, sets-eq, take-at, drop-at, drop-drop}
 use Rattle.sign.proofs.Laws.{same, ints}
-use Rattle.rules.specs.Kinds.{Kind, kR, kD, kH, kU, kE, kV, Stored, stored, unpacked}
+use Rattle.rules.specs.Kinds.{Kind, Stored, stored, unpacked}
 use Rattle.rules.specs.Days.{countsDays}
 use Rattle.rules.proofs.OnKinds.PackLaws.{word-alone}
 use Rattle.requests.specs.Gaps.{Placed}

@@ -1,5 +1,5 @@
 -- The walk for a kind: what the code finds of a record is what the definitions say, one record after the other. Assumes nothing.
-use mathlib.Core.Path.{_≡_, refl, sym, ap, subst, _∙_}
+use mathlib.Core.Path.{_≡_, refl, ap, subst, _∙_}
 use mathlib.Core.Bool.{Bool, true, false, cond}
 use mathlib.Core.List.{List, [], _∷_}
 use Prim.Native.Nat.{ℕ, zero, suc, _+_, _-_, _≤_, _<_}
@@ -10,23 +10,20 @@ use lib.IntN.{ℤ, pos, natAbs, subℕ, _-ℤ_}
 use lib.ListN.{length, drop}
 use Rattle.sign.specs.Halves.{up, dn}
 use Rattle.sign.proofs.Laws.{same, ints, one-side, up-sub, dn-sub}
-use Rattle.rules.specs.Refusals.{Answer, Gives, Refused, RefusedAt, _then_, demand, given, notOfKind}
+use Rattle.rules.specs.Refusals.{Answer, Gives, Refused, RefusedAt, _then_, given, notOfKind}
 use Rattle.rules.specs.Calendar.{lengths, monthLength, sumFirst, firstDay, dayOfYear}
 use Rattle.rules.specs.Kinds.{Kind, kR, kD, kH, kU, kE, kV, Fields, Stored, fitsKind, ofKind, made, unpacked, handed, ofDates}
-use Rattle.rules.specs.Days.{dayNumber, countsDays, difference, Order, Before, Same, After, order}
+use Rattle.rules.specs.Days.{dayNumber, countsDays, difference}
 use Rattle.rules.specs.Book.{Format, records, check, pick, recordAt, entryAt}
 use Rattle.rules.proofs.OnKinds.PackLaws.{handed-by, handed-tells}
 use Rattle.rules.proofs.OnBook.FrameLaws.{Stepped, then-met}
 use Rattle.requests.specs.Second.{FieldEntry}
-use Rattle.requests.specs.Gaps.{Placed, sameKind, ifOfKind, placedFrom, chosen, earlier, later}
+use Rattle.requests.specs.Gaps.{Placed, sameKind, ifOfKind, placedFrom}
 use Rattle.requests.specs.Both.{both}
 use Rattle.requests.proofs.OnGaps.StepLaws.{gap-even}
 use Rattle.requests.proofs.OnGaps.RecordLaws.{Dated, same-kind, both-dated}
 use Rattle.requests.proofs.OnGapReport.RoomLaws.{few-records}
 use Rattle.requests.proofs.OnGaps.ExactLaws.{Near, number-near}
-use Rattle.kinds.specs.declared.Ordered.{Ordered}
-use Rattle.kinds.specs.declared.Ordered.the-variants as R
-use Rattle.kinds.specs.Views.{orderedAs}
 use Rattle.gap_report.specs.Walk.{listOf, recordsIn, Sound, Tallied, numberFor, numberAt, counted, tally}
 
 -- ---- a date's day number, as its difference from 0.1.1
@@ -99,30 +96,6 @@ module _ (a b : ℕ) where
 
   pub far-above : a ≤ b → b - a ≡ natAbs (numberAt b -ℤ numberAt a)
   far-above h = rw (apart a b, abs-sub a b) (omega arith)
-
--- ---- the earlier and the later of two dates, by what the comparison says
-
-abbrev picked : Ordered → Fields → Fields → Fields
-picked R.Before f g = f
-picked R.Same f g = f
-picked R.After f g = g
-picked R.NotOfKind f g = f
-
-abbrev orSame : Answer Order → Order
-orSame (Gives o) = o
-orSame (Refused n) = Same
-orSame (RefusedAt n place) = Same
-
-picked-is : (x : Ordered) (f g : Fields) → picked x f g ≡ chosen (orSame (orderedAs x)) f g
-picked-is x f g = elim x [ R.Before ↦ refl | R.Same ↦ refl | R.After ↦ refl | R.NotOfKind ↦ refl ]
-
-pub earlier-picked : (f g : Fields) (x : Ordered) → orderedAs x ≡ Gives (order f g) → picked x f g ≡ earlier f g
-unfolding earlier
-earlier-picked f g x e = picked-is x f g ∙ ap (λ (a : Answer Order). chosen (orSame a) f g) e
-
-pub later-picked : (f g : Fields) (x : Ordered) → orderedAs x ≡ Gives (order g f) → picked x f g ≡ later f g
-unfolding later
-later-picked f g x e = picked-is x f g ∙ ap (λ (a : Answer Order). chosen (orSame a) f g) e
 
 -- ---- one record more
 

@@ -2,13 +2,20 @@
 use mathlib.Core.Path.{_≡_}
 use mathlib.Core.Bool.{true, false}
 use lib.Dec.{eqb}
-use Rattle.rules.specs.Refusals.{given}
+use Rattle.rules.specs.Refusals.{Answer, Gives, Refused, RefusedAt, given}
 use Rattle.rules.specs.Kinds as K
+use Rattle.rules.specs.Days.{Order, Same}
 use Rattle.kinds.specs.Views.{bitsOf}
 use Rattle.requests.specs.Gaps as G
 use Rattle.gap_report.specs.Walk.{Tallied, numberAt}
 use Rattle.gap_report.specs.declared.tally.Step.{Step}
 use Rattle.gap_report.specs.declared.tally.Tally.{Tally}
+
+-- the order of two dates, Same where they were refused
+abbrev pub orSame : Answer Order → Order
+orSame (Gives o) = o
+orSame (Refused n) = Same
+orSame (RefusedAt n place) = Same
 
 abbrev pub stepAs : Step → G.Step
 stepAs s = record { long = s .long; place = s .place }

@@ -9,11 +9,11 @@ ghost use Rattle.rules.specs.Refusals.{Gives, given};
 ghost use Rattle.rules.specs.Kinds.{unpacked, handed};
 ghost use Rattle.rules.specs.Book.{check};
 ghost use Rattle.requests.specs.Both.{both};
-ghost use Rattle.requests.specs.Gaps.{sameKind, ifOfKind, earlier, later, longer};
-ghost use Rattle.kinds.specs.Views.{kindOf, bitsOf};
+ghost use Rattle.requests.specs.Gaps.{sameKind, ifOfKind, chosen, earlier, later, longer};
+ghost use Rattle.kinds.specs.Views.{kindOf, bitsOf, orderedAs};
 ghost use Rattle.book.specs.Views.{foundAs};
 ghost use Rattle.gap_report.specs.Walk.{ofBook, Sound, numberFor, numberAt, nothing, begun, added, counted, tally};
-ghost use Rattle.gap_report.specs.Views.{stepAs, talliedAs, OneOf, Dated};
+ghost use Rattle.gap_report.specs.Views.{orSame, stepAs, talliedAs, OneOf, Dated};
 use book::Found;
 use book_versions::any;
 use day_count::Days;
@@ -88,11 +88,11 @@ fn distance(a: u32, b: u32) -> u32
     b - a
 }
 
-fn earlier(f: Packed, g: Packed) -> Packed
-    ensures { λ r. ⌜ unpacked (bitsOf r) ≡ earlier (unpacked (bitsOf f)) (unpacked (bitsOf g)) ⌝ }
+// The second date where the order says After, else the first.
+fn chosen(order: Ordered, f: Packed, g: Packed) -> Packed
+    ensures { λ r. ⌜ unpacked (bitsOf r) ≡ chosen (orSame (orderedAs order)) (unpacked (bitsOf f)) (unpacked (bitsOf g)) ⌝ }
     ensures { λ r. ⌜ OneOf (bitsOf f) (bitsOf g) (bitsOf r) ⌝ }
 {
-    let order = kinds::order_of(f, g);
     match order {
         Ordered::Before => f,
         Ordered::Same => f,
@@ -101,17 +101,18 @@ fn earlier(f: Packed, g: Packed) -> Packed
     }
 }
 
+fn earlier(f: Packed, g: Packed) -> Packed
+    ensures { λ r. ⌜ unpacked (bitsOf r) ≡ earlier (unpacked (bitsOf f)) (unpacked (bitsOf g)) ⌝ }
+    ensures { λ r. ⌜ OneOf (bitsOf f) (bitsOf g) (bitsOf r) ⌝ }
+{
+    chosen(kinds::order_of(f, g), f, g)
+}
+
 fn later(f: Packed, g: Packed) -> Packed
     ensures { λ r. ⌜ unpacked (bitsOf r) ≡ later (unpacked (bitsOf f)) (unpacked (bitsOf g)) ⌝ }
     ensures { λ r. ⌜ OneOf (bitsOf f) (bitsOf g) (bitsOf r) ⌝ }
 {
-    let order = kinds::order_of(g, f);
-    match order {
-        Ordered::Before => f,
-        Ordered::Same => f,
-        Ordered::After => g,
-        Ordered::NotOfKind => f,
-    }
+    chosen(kinds::order_of(g, f), f, g)
 }
 
 // The first record of a kind.

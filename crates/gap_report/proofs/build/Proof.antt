@@ -2,7 +2,7 @@
 use mathlib.Core.List.{_++_}
 use native.Mathlib.Omega.{arith}
 use denote.Ref.{now}
-use Rattle.rules.specs.Kinds.{Kind, kR, kD, kH, kU, kE, kV}
+use Rattle.rules.specs.Kinds.{kR, kD, kH, kU, kE, kV}
 use Rattle.rules.specs.Listing.{joined}
 use Rattle.requests.specs.GapReport.{reportText, kindLine}
 use Rattle.gap_report.specs.Walk.{ofBook, twoLines}

@@ -3,7 +3,6 @@ use mathlib.Core.Path.{refl}
 use mathlib.Core.List.{_++_}
 use native.Mathlib.Omega.{arith}
 use denote.Ref.{now}
-use lib.ListN.{length-set}
 use Rattle.rules.specs.Refusals.{Refused}
 use Rattle.rules.specs.Words.{bytes}
 use Rattle.rules.specs.Spelling.{decimal}

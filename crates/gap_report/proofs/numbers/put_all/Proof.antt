@@ -1,5 +1,5 @@
 -- `gap_report::numbers::put_all` meets its contract: kind by kind, in the order of the codes. Assumes nothing.
-use mathlib.Core.Path.{_∙_, sym, ap}
+use mathlib.Core.Path.{_∙_, ap}
 use mathlib.Core.List.{List, _++_}
 use native.Mathlib.Omega.{arith}
 use denote.Ref.{now}

@@ -8,7 +8,6 @@ ghost use Rattle.rules.specs.Words.{bytes};
 ghost use Rattle.rules.specs.Refusals.{Gives, Refused, RefusedAt};
 ghost use Rattle.rules.specs.Spelling.{decimal, putAnswer, putBuffer};
 ghost use Rattle.rules.specs.Book.{check};
-ghost use Rattle.rules.specs.Listing.{lineEnd};
 ghost use Rattle.requests.specs.Both.{both};
 ghost use Rattle.requests.specs.GapReport.{spaced, kindLine, reportText, report, printed};
 ghost use Rattle.digits.specs.Places.{placed};
@@ -57,7 +56,7 @@ fn put_two(b: &[u8], n: usize, out: &mut [u8], first: Kind, second: Kind) -> usi
     at + put_kind(b, n, &mut out[at..], second)
 }
 
-// The whole report of a book that was checked and has n records, in a buffer with room for six lines of any length.
+// The whole report of a book that was checked and has n records, in a buffer with room for six lines, each of at most 119 bytes.
 fn build(b: &[u8], n: usize, out: &mut [u8]) -> usize
     requires { ⌜ check (both (now b)) (now b) ≡ Gives n ⌝ }
     requires { ⌜ 714 ≤ length (now out) ⌝ }
@@ -122,7 +121,7 @@ pub fn figures(b: &[u8], out: &mut [i64]) -> Reported
 
 // The fixed word and the number of a refusal.
 fn put_refused(out: &mut [u8], n: u8) -> usize
-    requires { ⌜ 29 ≤ length (now out) ⌝ }
+    requires { ⌜ 28 ≤ length (now out) ⌝ }
     ensures { λ r. ⌜ (r ≡ length (bytes "refused" ++ spaced (decimal n))) × (r ≤ 28) ⌝ }
     ensures { λ _. ⌜ now (out .exit) ≡ placed (bytes "refused" ++ spaced (decimal n)) (now (out .entry)) ⌝ }
 {
@@ -151,7 +150,7 @@ fn print_refused_at(out: &mut [u8], n: u8, place: usize) -> usize
     end + 1
 }
 
-// What `gaps` prints of whatever the buffer holds, in a buffer with room for six lines of any length.
+// What `gaps` prints of whatever the buffer holds, in a buffer with room for six lines, each of at most 119 bytes.
 pub fn print(b: &[u8], out: &mut [u8]) -> usize
     requires { ⌜ 714 ≤ length (now out) ⌝ }
     ensures { λ r. ⌜ (r ≡ length (printed (report (now (b .entry))))) × (r ≤ 714) ⌝ }

@@ -6,7 +6,7 @@ use Prim.Native.Nat.{ℕ, _+_, _*_, _-_, _/_, _≤_, _<_}
 use native.Mathlib.Omega.{arith}
 use lib.Dec.{T, lit<}
 use lib.IntN.{ℤ}
-use lib.ListN.{length, getD, take, drop}
+use lib.ListN.{length, take, drop}
 use lib.Seq.{drop-drop}
 use Rattle.rules.specs.Refusals.{Answer, Gives, Refused, RefusedAt, _then_, demand, given, noRecord}
 use Rattle.rules.specs.Kinds.{Kind, Fields, Stored, storeWith}
@@ -15,14 +15,11 @@ use Rattle.rules.proofs.OnBook.PieceLaws.{piece-count, pick-past, pick-piece}
 use Rattle.rules.proofs.OnBook.FrameLaws.{Sensible, same-refusal}
 use Rattle.requests.specs.Entries.{ascends, standing}
 use Rattle.requests.specs.Laid.{laid}
-use Rattle.requests.specs.FieldTable.{TableFormat, tableFrame, table1, badEntry, keyIn, codeIn, isKey, declaredKind, gameKind, Declared, declaredBy, entryBytes, entryFor, entries, counted, check, entryAt, declareIn, removeIn, declared, removed, tableBuffer, declareBuffer, removeBuffer, Looked, lookedMark, decode, guess, lookBy, gameFor, lookup}
-use Rattle.requests.proofs.OnFieldTable.EntryLaws.{declares, no-key, no-kind, by-its-code, declared-here, declared-none, all-here, first-declares}
+use Rattle.requests.specs.FieldTable.{TableFormat, tableFrame, table1, badEntry, keyIn, isKey, declaredKind, gameKind, Declared, declaredBy, entryBytes, entryFor, entries, inOrder, counted, check, entryAt, declareIn, removeIn, declared, removed, tableBuffer, declareBuffer, removeBuffer, Looked, lookedMark, lookBy, gameFor, lookup}
+use Rattle.requests.proofs.OnFieldTable.EntryLaws.{declares, no-key, no-kind, all-here}
 use Rattle.requests.proofs.OnFieldTable.HeldLaws.{Holds, sensible-table, check-entries, check-holds, check-fits, check-most, check-says}
-use Rattle.field_table.specs.declared.sized.Found.the-variants as F
-use Rattle.field_table.specs.Search.{Room, entriesIn, findOf}
+use Rattle.field_table.specs.Search.{Room, entriesIn}
 use Rattle.field_table.specs.Views.{tableOf, Bits, inBits}
-use Rattle.field_table.proofs.Orders.{code-here}
-use Rattle.field_table.proofs.Finds.{at-tells, at-piece, absent-tells}
 
 sensible : Sensible (tableFrame table1)
 sensible = sensible-table table1 (lit< tt)
@@ -83,6 +80,9 @@ module _ (s : List ℕ) where
     pub order : ascends (keyIn 2) 0 (entriesIn 2 n s) ≡ true
     order = check-holds table1 sensible s n (sym e) .order
 
+    pub ordered : inOrder 2 (entriesIn 2 n s) ≡ true
+    ordered = let h = check-holds table1 sensible s n (sym e) in rw (h .declare, h .order)
+
     pub few : n ≤ 2048
     few = check-most table1 sensible s n (sym e)
 
@@ -112,17 +112,12 @@ module _ (s : List ℕ) where
         picked : pick (entriesIn 2 n s) place ≡ Gives piece
         picked = pick-piece n 3 (drop headSize s) place h ∙ rw (drop-drop (place * 3) headSize s)
 
-        entry-is : entryAt table1 s place ≡ declaredBy 2 piece
+        pub entry-is : entryAt table1 s place ≡ declaredBy 2 piece
         unfolding entryAt
         entry-is = rw (are, picked)
 
-        pub entry-here : {k : Kind} → Gives k ≡ declaredKind (getD s (headSize + place * 3 + 2) 0) → entryAt table1 s place ≡ Gives (record { key = keyIn 2 piece; kind = k })
-        entry-here {k} e′ =
-            let d = all-here 2 (entriesIn 2 n s) (check-holds table1 sensible s n (sym e) .declare) place piece picked in
-            entry-is ∙ declared-here 2 piece k d (ap declaredKind (code-here s (headSize + place * 3) 2) ∙ sym e′)
-
-        pub entry-none : Refused badEntry ≡ declaredKind (getD s (headSize + place * 3 + 2) 0) → entryAt table1 s place ≡ Refused badEntry
-        entry-none e′ = entry-is ∙ declared-none 2 piece (ap declaredKind (code-here s (headSize + place * 3) 2) ∙ sym e′)
+        pub it-declares : given (declaredBy 2 piece) ≡ true
+        it-declares = all-here 2 (entriesIn 2 n s) (check-holds table1 sensible s n (sym e) .declare) place piece picked
 
     -- ---- looking up
 
@@ -137,22 +132,9 @@ module _ (s : List ℕ) where
         look-no-game g = rw (are, h, ← g)
 
         module _ {k : Kind} (g : Gives k ≡ gameKind game) where
-          by-entry : lookup table1 s field game z ≡ lookBy 2 (standing (keyIn 2) field (entriesIn 2 n s)) k z
+          pub by-entry : lookup table1 s field game z ≡ lookBy 2 (standing (keyIn 2) field (entriesIn 2 n s)) k z
           unfolding lookup gameFor
           by-entry = rw (are, h, ← g)
-
-          pub look-guess : {i : ℕ} → F.Absent i ≡ findOf 2 field (entriesIn 2 n s) → lookup table1 s field game z ≡ guess z k
-          unfolding lookBy
-          look-guess {i} f = by-entry ∙ rw (absent-tells 2 n s field i order f .none)
-
-          pub look-decode : {i : ℕ} → F.At i ≡ findOf 2 field (entriesIn 2 n s) →
-              lookup table1 s field game z ≡ (declaredKind (getD s (headSize + i * 3 + 2) 0) then decode z)
-          unfolding lookBy
-          look-decode {i} f =
-              let r = take 3 (drop (headSize + i * 3) s) in
-              let at = at-piece 2 n s field i order f in
-              let d = first-declares 2 (keyIn 2) _ (entriesIn 2 n s) r [] (check-holds table1 sensible s n (sym e) .declare) at in
-              by-entry ∙ rw at (by-its-code 2 r (decode z) d) ∙ ap (λ (x : ℕ). declaredKind x then decode z) (code-here s (headSize + i * 3) 2)
 
     -- ---- declaring and removing
 

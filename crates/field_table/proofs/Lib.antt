@@ -4,3 +4,4 @@ pub mod Finds
 pub mod Changes
 pub mod Calls
 pub mod Determined
+pub mod ByKey

@@ -17,9 +17,9 @@ use kinds::Kind;
 use kinds::Packed;
 use number::Guess;
 use number::Read;
-use sized::Found;
 
 pub mod allowed;
+pub mod by_key;
 pub mod sized;
 
 // The bytes of a field number, the most entries and the version byte of version 1.
@@ -101,13 +101,7 @@ pub fn declared_at(b: &[u8], place: usize) -> Entry
     ensures { λ r. ⌜ entryAs r ≡ entryAt table1 (now (b .entry)) place ⌝ }
 {
     if place < entries_in(b) {
-        let at = HEAD_SIZE + place * SIZE;
-        let field = sized::key_at(b, at, KEY_SIZE) as u32;
-        let coded = allowed::entry_kind(b[at + KEY_SIZE]);
-        match coded {
-            Coded::Kind(kind) => Entry::Field { field, kind },
-            Coded::None => Entry::BadEntry,
-        }
+        by_key::declared_at(b, HEAD_SIZE + place * SIZE, KEY_SIZE)
     } else {
         Entry::NoEntry
     }
@@ -150,11 +144,7 @@ pub fn look(b: &[u8], field: u32, game: u32, number: i32) -> Looked
         let coded = allowed::game_kind(game);
         match coded {
             Coded::Kind(kind) => {
-                let found = sized::find(b, entries_in(b), KEY_SIZE, field as usize);
-                match found {
-                    Found::At(i) => decode(b[HEAD_SIZE + i * SIZE + KEY_SIZE], number),
-                    Found::Absent(_) => guess(kind, number),
-                }
+                by_key::look(b, entries_in(b), KEY_SIZE, field as usize, kind, number)
             }
             Coded::None => Looked::BadEntry,
         }

@@ -96,7 +96,7 @@ pub fn check_of(b: &[u8], key_size: usize, most: usize, version: u8) -> Checked
 }
 
 // The number of entries with a smaller key, by halving.
-fn place_of(b: &[u8], n: usize, key_size: usize, key: usize) -> usize
+pub fn place_of(b: &[u8], n: usize, key_size: usize, key: usize) -> usize
     requires { ⌜ Room «key_size» n (length (now b)) ⌝ }
     requires { ⌜ ascends (keyIn «key_size») 0 (entriesIn «key_size» n (now b)) ≡ true ⌝ }
     ensures { λ r. ⌜ r ≡ place (keyIn «key_size») key (entriesIn «key_size» n (now (b .entry))) ⌝ }

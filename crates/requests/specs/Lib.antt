@@ -8,3 +8,4 @@ pub mod Both
 pub mod Moves
 pub mod Gaps
 pub mod GapReport
+pub mod Leagues

@@ -4,9 +4,8 @@ use Prim.Native.Nat.{_+_, _*_, _≤_, _<_}
 use native.Mathlib.Omega.{arith}
 use denote.Ref.{now}
 use lib.ListN.{length}
-use Rattle.field_table.specs.Views.{allowedAs}
 use Rattle.field_table.proofs.Keys.{inside}
-use Rattle.field_table.proofs.Calls.{room, entry-past, entry-here, entry-none}
+use Rattle.field_table.proofs.Calls.{room, entry-past, entry-is, it-declares}
 use borrow.Author.Needs.{needs}
 use Rattle.field_table.proofs.declared_at.Statement.{statement}
 use Rattle.field_table.proofs.declared_at.Tie as tie
@@ -14,34 +13,22 @@ use Rattle.field_table.proofs.declared_at.Tie as tie
 ends : (c : tie.After-entries-in) → c .before .before .args .place < c .entries-in .result → 5 + c .before .before .args .place * 3 + 3 ≤ length (now (c .before .before .args .b))
 ends c l = inside (room (now (c .before .before .args .b)) (sym (c .entries-in .ensures))) (c .before .before .args .place) l
 
-mul-at : tie.Need-mul-at
-mul-at c = omega (arith, ends (c .before) (c .if1 .taken))
+mul-declared-at : tie.Need-mul-declared-at
+mul-declared-at c = omega (arith, ends (c .before) (c .if1 .taken))
 
-add-at : tie.Need-add-at
-add-at c = omega (arith, ends (c .before) (c .if1 .taken))
+add-declared-at : tie.Need-add-declared-at
+add-declared-at c = omega (arith, ends (c .before) (c .if1 .taken))
 
-key-at-requires : tie.Need-key-at-requires
-key-at-requires c κs = omega (arith, ends (c .before) (c .if1 .taken))
-
-cast-field : tie.Need-cast-field
-cast-field c = omega (arith, c .key-at .ensures .1)
-
-add-entry-kind : tie.Need-add-entry-kind
-add-entry-kind c = omega (arith, ends (c .before .before) (c .before .if1 .taken))
-
-shared-slice-read-entry-kind : tie.Need-shared-slice-read-entry-kind
-shared-slice-read-entry-kind c = omega (arith, ends (c .before .before .before) (c .before .before .if1 .taken))
+declared-at-requires : tie.Need-declared-at-requires
+declared-at-requires c κs =
+    let a = c .before .before .before .args in ((omega (arith, ends (c .before) (c .if1 .taken)), omega arith), it-declares (now (a .b)) (sym (c .before .entries-in .ensures)) (a .place) (c .if1 .taken))
 
 returns : tie.Need-returns
 returns c =
-    let a = c .before .before .before .before .before .before .before .before .before .args in rw (c .before .before .before .before .before .key-at .ensures .0) (sym (entry-here (now (a .b)) (sym (c .before .before .before .before .before .before .before .entries-in .ensures)) (a .place) (c .before .before .before .before .before .before .if1 .taken) (ap allowedAs (sym (c .before .coded .given .1)) ∙ c .before .before .before .entry-kind .ensures)))
+    let a = c .before .before .before .before .args in c .declared-at .ensures ∙ sym (entry-is (now (a .b)) (sym (c .before .before .entries-in .ensures)) (a .place) (c .before .if1 .taken))
 
 returns-2 : tie.Need-returns-2
 returns-2 c =
-    let a = c .before .before .before .before .before .before .before .before .args in sym (entry-none (now (a .b)) (sym (c .before .before .before .before .before .before .entries-in .ensures)) (a .place) (c .before .before .before .before .before .if1 .taken) (ap allowedAs (sym (c .enum-told .given .1)) ∙ c .before .before .entry-kind .ensures))
-
-returns-3 : tie.Need-returns-3
-returns-3 c =
     let a = c .before .before .before .args in sym (entry-past (now (a .b)) (sym (c .before .entries-in .ensures)) (a .place) (omega (arith, c .if1 .left)))
 
 pub declared-at-spec : {M : Type 1} → statement M
@@ -49,15 +36,8 @@ declared-at-spec =
     tie.close
     (tie.spec
     (λ c κs. search needs)
-    mul-at
-    add-at
-    key-at-requires
-    cast-field
-    add-entry-kind
-    shared-slice-read-entry-kind
-    (λ c κs. search needs)
-    (λ c. search needs)
-    (λ c. search needs)
+    mul-declared-at
+    add-declared-at
+    declared-at-requires
     returns
-    returns-2
-    returns-3)
+    returns-2)

@@ -16,19 +16,12 @@ use Rattle.rules.specs.Book.{lengthSize, headSize, pieces}
 use Rattle.rules.proofs.Shared.Rests.{here}
 use Rattle.rules.proofs.OnWords.ByteLaws.{byte-count}
 use Rattle.rules.proofs.OnBook.PieceLaws.{piece-count}
-use Rattle.requests.specs.Laid.{joined, laid}
-use Rattle.requests.proofs.OnEntries.EachLaws.{Each}
-use Rattle.requests.proofs.OnLaid.LaidLaws.{Long, pieces-long, joined-long, joined-more}
-use Rattle.requests.proofs.OnLaid.CutLaws.{pieces-last}
-use Rattle.requests.proofs.OnMoves.PassLaws.{each-changed}
+use Rattle.requests.specs.Laid.{joined}
+use Rattle.requests.proofs.OnLaid.LaidLaws.{Long}
+use Rattle.requests.proofs.OnLaid.StoreLaws as S
+use Rattle.frame.specs.Views.{frameOf}
 use Rattle.book.specs.Views.{dateSize, leastSize}
 use Rattle.book_versions.specs.Recast.{zeros, recast, recastAll, roomOf, layAnswer, layBuffer}
-
--- ---- stores after stores
-
-pub sets-more : (x y t : List ℕ) (a : ℕ) → sets (sets t a x) (a + length x) y ≡ sets t a (x ++ y)
-sets-more [] y t a = rw add-zero
-sets-more (v ∷ x) y t a = let e : a + suc (length x) ≡ suc a + length x = omega arith in rw e (sets-more x y (set t a v) (suc a))
 
 pub zeros-long : (n : ℕ) → length (zeros n) ≡ n
 zeros-long n = length-replicate n 0
@@ -75,9 +68,9 @@ module _ (s : List ℕ) (at size : ℕ) (some : leastSize ≤ size) (inside : at
       let z = zeros (newSize - leastSize) in
       let l : length z ≡ newSize - leastSize = zeros-long (newSize - leastSize) in
       let one : target + 1 + (newSize - leastSize) ≤ length (sets t target (k ∷ [])) = rw (length-set t target k) (omega arith) in
-      let kind-zeros : t₁ ≡ sets t target (k ∷ z) = p ∙ zeros-set (sets t target (k ∷ [])) (target + 1) (newSize - leastSize) one ∙ sets-more (k ∷ []) z t target in
+      let kind-zeros : t₁ ≡ sets t target (k ∷ z) = p ∙ zeros-set (sets t target (k ∷ [])) (target + 1) (newSize - leastSize) one ∙ S.sets-more (k ∷ []) z t target in
       let end : target + newSize - dateSize ≡ target + length (k ∷ z) = omega arith in
-      e ∙ rw (kind-zeros, end, sets-more (k ∷ z) v t target, q, first, date)
+      e ∙ rw (kind-zeros, end, S.sets-more (k ∷ z) v t target, q, first, date)
 
 -- ---- one record after the other
 
@@ -86,59 +79,33 @@ recast-long size newSize some new r l =
     let one : length (take 1 r) ≡ 1 = length-take-le 1 r (omega arith) in
     rw (length-append, length-append, one, zeros-long (newSize - leastSize), length-drop) (omega arith)
 
+-- "each record recast" is a change of each, so what is said of changed pieces holds of the records
 module _ (s : List ℕ) (size newSize : ℕ) (some : leastSize ≤ size) (new : leastSize ≤ newSize) where
-  -- the first i records of s, recast
-  abbrev firstOnes : ℕ → List (List ℕ)
-  firstOnes i = recastAll size newSize (pieces i size (drop headSize s))
+  abbrev long : (r : List ℕ) → Long size r → Long newSize (recast size newSize r)
+  long = recast-long size newSize some new
 
-  ones-long : (i : ℕ) → headSize + i * size ≤ length s → Each (Long newSize) (firstOnes i)
-  ones-long i h =
-      each-changed (Long size) (recast size newSize) (Long newSize) (recast-long size newSize some new) (pieces i size (drop headSize s))
-      (pieces-long i size (drop headSize s) (rw length-drop (omega arith)))
+  pub ones-count : (i : ℕ) → length (recastAll size newSize (pieces i size (drop headSize s))) ≡ i
+  ones-count i = S.ones-count (recast size newSize) size newSize long s i
 
-  pub ones-count : (i : ℕ) → length (firstOnes i) ≡ i
-  ones-count i = length-map (pieces i size (drop headSize s)) (recast size newSize) ∙ piece-count i size (drop headSize s)
+  pub body-long : (i : ℕ) → headSize + i * size ≤ length s → length (joined (recastAll size newSize (pieces i size (drop headSize s)))) ≡ i * newSize
+  body-long i h = S.body-long (recast size newSize) size newSize long s i h
 
-  pub body-long : (i : ℕ) → headSize + i * size ≤ length s → length (joined (firstOnes i)) ≡ i * newSize
-  body-long i h = joined-long newSize (firstOnes i) (ones-long i h) ∙ rw (ones-count i)
+  pub ones-none : (t : List ℕ) → t ≡ sets t headSize (joined (recastAll size newSize (pieces 0 size (drop headSize s))))
+  ones-none t = S.ones-none (recast size newSize) size newSize long s t
 
-  -- none yet
-  pub ones-none : (t : List ℕ) → t ≡ sets t headSize (joined (firstOnes 0))
-  unfolding joined pieces
-  ones-none t = refl
-
-  -- one more
-  pub ones-more : (i : ℕ) (t out t₁ : List ℕ) → headSize + i * size ≤ length s → out ≡ sets t headSize (joined (firstOnes i)) →
-      t₁ ≡ sets out (headSize + i * newSize) (recast size newSize (take size (drop (headSize + i * size) s))) → t₁ ≡ sets t headSize (joined (firstOnes (i + 1)))
-  ones-more i t out t₁ h e p =
-      let x = joined (firstOnes i) in
-      let r = take size (drop (headSize + i * size) s) in
-      let l : headSize + i * newSize ≡ headSize + length x = rw (body-long i h) in
-      let last : pieces (i + 1) size (drop headSize s) ≡ pieces i size (drop headSize s) ++ r ∷ [] =
-      (let n : i + 1 ≡ suc i = omega arith in rw (n, pieces-last i size (drop headSize s), drop-drop (i * size) headSize s)) in
-      let more : joined (firstOnes (i + 1)) ≡ x ++ recast size newSize r =
-      rw (last, map-append (recast size newSize) (pieces i size (drop headSize s)) (r ∷ []), joined-more (firstOnes i) (recast size newSize r)) in
-      p ∙ rw (e, l, sets-more x (recast size newSize r) t headSize, more)
+  pub ones-more : (i : ℕ) (t out t₁ : List ℕ) → headSize + i * size ≤ length s → out ≡ sets t headSize (joined (recastAll size newSize (pieces i size (drop headSize s)))) →
+      t₁ ≡ sets out (headSize + i * newSize) (recast size newSize (take size (drop (headSize + i * size) s))) →
+      t₁ ≡ sets t headSize (joined (recastAll size newSize (pieces (i + 1) size (drop headSize s))))
+  ones-more i t out t₁ h e p = S.ones-more (recast size newSize) size newSize long s i t out t₁ h e p
 
 -- ---- the book of them
 
 module _ (size version : ℕ) (rs : List (List ℕ)) (n : ℕ) (count : length rs ≡ n) (t : List ℕ) where
-  -- the length, the version byte and the records, each stored after the other
   pub lay-stores : (t₁ t₂ : List ℕ) → length (joined rs) ≡ n * size → roomOf size n ≤ length t → t₁ ≡ sets t 0 (bigBytes lengthSize (1 + n * size)) →
       t₂ ≡ sets (set t₁ lengthSize version) headSize (joined rs) → t₂ ≡ layBuffer size version rs t
-  unfolding layBuffer laid
+  unfolding layBuffer
   lay-stores t₁ t₂ l room p q =
-      let a = bigBytes lengthSize (1 + n * size) in
-      let c : length a ≡ lengthSize = byte-count lengthSize (1 + n * size) in
-      let head : sets (sets t 0 a) lengthSize (version ∷ []) ≡ sets t 0 (a ++ version ∷ []) =
-      (let z : lengthSize ≡ 0 + length a = omega arith in ap (λ (m : ℕ). sets (sets t 0 a) m (version ∷ [])) z ∙ sets-more a (version ∷ []) t 0) in
-      let whole : sets (sets t 0 (a ++ version ∷ [])) headSize (joined rs) ≡ sets t 0 (a ++ version ∷ joined rs) =
-      (let z : headSize ≡ 0 + length (a ++ version ∷ []) = rw (length-append, c) in
-      ap (λ (m : ℕ). sets (sets t 0 (a ++ version ∷ [])) m (joined rs)) z ∙ sets-more (a ++ version ∷ []) (joined rs) t 0
-      ∙ ap (sets t 0) (append-assoc a (version ∷ []) (joined rs))) in
-      let long : length (a ++ version ∷ joined rs) ≡ roomOf size n = rw (length-append, c) (omega arith) in
-      q ∙ rw (p, head, whole, count, le-leb (roomOf size n) (length t) room)
-      (sets-eq (a ++ version ∷ joined rs) t 0 (omega arith) ∙ rw (long, zero-add))
+      rw (count, le-leb (roomOf size n) (length t) room) (S.stores (frameOf size n version) rs n count t t₁ t₂ l room p q)
 
   pub lay-kept : length t < roomOf size n → (Refused noRoom ≡ layAnswer size n t) × (t ≡ layBuffer size version rs t)
   unfolding layAnswer layBuffer

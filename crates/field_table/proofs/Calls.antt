@@ -40,7 +40,7 @@ looked k g x e = ap (told k g) e ∙ stored-so k g x
 
 -- ---- the bytes that a change leaves do not depend on the most entries
 
-any-most : (keySize most most′ version freed : ℕ) (x : Answer (List (List ℕ))) (s : List ℕ) →
+pub any-most : (keySize most most′ version freed : ℕ) (x : Answer (List (List ℕ))) (s : List ℕ) →
     tableBuffer (tableOf keySize most version) freed x s ≡ tableBuffer (tableOf keySize most′ version) freed x s
 unfolding tableBuffer laid
 any-most keySize most most′ version freed (Gives rs) s = refl

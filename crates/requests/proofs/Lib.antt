@@ -7,6 +7,7 @@ pub mod OnFours
 pub mod OnSecond
 pub mod OnBoth
 pub mod OnMoves
+pub mod OnLeagues
 pub mod OnGaps
 pub mod OnGapReport
 pub mod Worked

@@ -3,3 +3,4 @@ pub mod KeepLaws
 pub mod EachLaws
 pub mod OrderLaws
 pub mod ChangeLaws
+pub mod PartLaws

@@ -3,3 +3,4 @@ pub mod CutLaws
 pub mod TurnLaws
 pub mod LaidLaws
 pub mod BytesLaws
+pub mod StoreLaws

@@ -54,7 +54,7 @@ module _ {A : Type 0} (key : A → ℕ) where
 
   -- ---- the place of a key
 
-  none-below : (q low : ℕ) (rs : List A) → q ≤ suc low → ascends key low rs ≡ true → keep key (below q) rs ≡ []
+  pub none-below : (q low : ℕ) (rs : List A) → q ≤ suc low → ascends key low rs ≡ true → keep key (below q) rs ≡ []
   none-below q low rs h a = past (below q) false low (λ x g. le-ltb x q (omega arith)) rs a
 
   none-same : (q low : ℕ) (rs : List A) → q ≤ low → ascends key low rs ≡ true → keep key (same q) rs ≡ []

@@ -1,0 +1,3 @@
+-- A table that two leagues share.
+pub mod OwnLaws
+pub mod SharedLaws

@@ -14,11 +14,11 @@
  *
  * Every answer has a refusal, 0 where there is none:
  *    1 text over 64 bytes            7 buffer shorter than the text,  13 book or table: nothing at that place
- *    2 text not of that kind           or too few numbers lent        14 table: an entry or a call out of order
- *    3 number not a date,            9 book or table: its length         or not allowed
- *      or guess refused             10 book or table: its version     15 table: full, or no room for a new entry
- *    4 not of that kind             11 book: a bad record; value is   16 table: no such field to remove
- *    5 sum outside 32 bits             the first one's place
+ *    2 text not of that kind           or too few numbers lent        14 table: an entry or a call out of order or not
+ *    3 number not a date,            9 book or table: its length         allowed, or over 1,024 entries of a league
+ *      or guess refused             10 book or table: its version     15 table: full, or a league's share of it; no room
+ *    4 not of that kind             11 book: a bad record; value is      for a new entry; a table that cannot be moved
+ *    5 sum outside 32 bits             the first one's place          16 table: no such field to remove
  *    6 sum outside every date       12 book or new table: no room
  *   20 book of version 1: a guessed date appended
  *   21 book moved back to version 1: a record with a field number or a mark; value is the first one's place
@@ -236,6 +236,51 @@ pq_record pq_table_entry(const uint8_t *table, size_t len, size_t place);
 pq_answer pq_table_lookup_all(const uint8_t *table, size_t len, uint32_t game_kind, const uint32_t *fields,
                               size_t fields_len, const int32_t *numbers, size_t numbers_len, uint32_t *out,
                               size_t out_len);
+
+/* A table of declared fields that two leagues share, each with declarations of its own: table version 2. Its entries have
+   four bytes: the league, 1 or 2, then field and kind as in version 1. They ascend by league, then field, and each league
+   has at most PQ_LEAGUES_SHARE of them. Both may declare the same field. Field 500 as D by league 1, as V by league 2:
+   00 00 00 09 02 01 01 F4 02 02 01 F4 06.
+
+   Each call but pq_leagues_new and pq_leagues_from_table is one league's, and tells of that league's own entries alone:
+   whatever the other has declared, a count, a place or a refusal is the same. So it is wherever the buffer has
+   PQ_LEAGUES_ROOM bytes, which hold all entries of both. In a shorter one the two draw on the same bytes: a new field is
+   then 15 where under four are left, whoever took the others. The bytes of the buffer tell of both leagues: show them to
+   neither, and keep them yourself.
+
+   First come the table's own refusals: 9 where it has under five bytes or its length is 0, over 8,193 or past the
+   buffer's end; 10 for its version; 9 again where its entries are not whole; 14 for entries out of order, for a league
+   byte other than 1 or 2, a field 0 or a kind that is not allowed, and for over PQ_LEAGUES_SHARE entries of one league.
+   Then 14 for a league, a field or a kind in the call, never cut: league 257 is none. Then 15, 16, 13 or 3. A table of
+   version 1 is 10 here; one of version 2 is 10 in the calls of version 1, or 9 where its length is over 6,145. */
+#define PQ_LEAGUES_SHARE 1024
+#define PQ_LEAGUES_ROOM 8197
+
+/* An empty table in the first five bytes, refused by 12 alone; the check of a table. The value is 0; the number of the
+   league's own entries. */
+pq_answer pq_leagues_new(uint8_t *table, size_t len);
+pq_answer pq_leagues_check(const uint8_t *table, size_t len, uint32_t league);
+
+/* Declares a field of the league: one that it has gets the new kind, also where its share is full; a new one takes the
+   next four bytes, and is 15 where the league has PQ_LEAGUES_SHARE entries or under four bytes stand after the table.
+   Removes a field of the league, or 16 where it has none such: the later entries close up, the four bytes freed become
+   0, and that room is used again. No byte after these is touched, and the other league keeps its entries. The value is
+   the number of the league's own entries afterwards. */
+pq_answer pq_leagues_declare(uint8_t *table, size_t len, uint32_t league, uint32_t field, uint32_t kind);
+pq_answer pq_leagues_remove(uint8_t *table, size_t len, uint32_t league, uint32_t field);
+
+/* The date of a number that stands in a field, as pq_table_lookup gives it, by what the league itself has declared. */
+pq_lookup pq_leagues_lookup(const uint8_t *table, size_t len, uint32_t league, uint32_t field, uint32_t game_kind,
+                            int32_t number);
+
+/* The entry at a place among the league's own, from 0; 13 past its last. */
+pq_record pq_leagues_entry(const uint8_t *table, size_t len, uint32_t league, size_t place);
+
+/* Writes a table of version 1 into the front of a second buffer, as a table of league 1 alone, whose lookups are those of
+   the first; the target's later bytes and the first table stay. The value is the number of entries. It is refused as by
+   pq_table_check, then by 15 where there are over PQ_LEAGUES_SHARE entries or room is under 5 + 4 * entries, also where
+   it is under five bytes, which is never 12 here. The buffers must not overlap. */
+pq_answer pq_leagues_from_table(const uint8_t *from, size_t len, uint8_t *to, size_t room);
 
 #ifdef __cplusplus
 }

@@ -62,6 +62,10 @@ void books(void);
 /* The bytes of a table's head and of an entry, and the most entries. */
 enum { HEAD = 5, ENTRY = 3, MOST = 2048 };
 
+int is_field(uint32_t field);
+int has_guess(uint32_t kind);
+int reads_numbers(uint32_t kind);
+
 /* Asks everything about a buffer. */
 void on_table(const uint8_t *bytes, size_t length);
 
@@ -91,5 +95,17 @@ void book_versions(void);
 /* ---- gaps.c */
 
 void gaps(void);
+
+/* ---- league_questions.c */
+
+/* Asks everything of two leagues about a buffer, and for a move of it, as a table of version 1, into one of league 1. */
+void on_leagues(const uint8_t *bytes, size_t length);
+
+/* Asks for that move alone. */
+void on_moved_table(const uint8_t *bytes, size_t length);
+
+/* ---- leagues.c */
+
+void leagues(void);
 
 #endif

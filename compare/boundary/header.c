@@ -1,5 +1,5 @@
 /* The header as C reads it: how large its structs are and where their members lie, and one telling answer of every function,
- * those of books in header_books.c and of gap reports in header_gaps.c.
+ * those of books in header_books.c, of gap reports in header_gaps.c and of tables of two leagues in header_leagues.c.
  *
  * The proof names members and parameters, and the header binds them by their places, so that two members or two parameters
  * that change places on one side pass the gate. Each answer below would be another then: members and arguments of one call
@@ -160,11 +160,11 @@ static void marks(void) {
     writes("pq_write_exchange, guessed", pq_write_exchange, E, guessed(late), "1337-04-01T19");
 }
 
-static void enters(const char *what, pq_record got, uint32_t refusal, uint32_t kind, uint32_t field) {
+void enters(const char *what, pq_record got, uint32_t refusal, uint32_t kind, uint32_t field) {
     tell(what, got.refusal == refusal && got.kind == kind && got.value == 0 && got.field == field);
 }
 
-static void looks(const char *what, pq_lookup got, uint32_t refusal, uint32_t kind, uint32_t value, uint32_t guessed) {
+void looks(const char *what, pq_lookup got, uint32_t refusal, uint32_t kind, uint32_t value, uint32_t guessed) {
     tell(what, got.refusal == refusal && got.kind == kind && got.value == value && got.guessed == guessed);
 }
 
@@ -252,6 +252,7 @@ int main(void) {
     books();
     gaps();
     tables();
+    leagues();
     printf("%d answers right, %d wrong\n", right, wrong);
     return wrong > 0;
 }

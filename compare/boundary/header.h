@@ -11,6 +11,8 @@ enum { R = 1, D, H, U, E, V };
 
 void tell(const char *what, int holds);
 void gives(const char *what, pq_answer got, uint32_t refusal, uint32_t value);
+void enters(const char *what, pq_record got, uint32_t refusal, uint32_t kind, uint32_t field);
+void looks(const char *what, pq_lookup got, uint32_t refusal, uint32_t kind, uint32_t value, uint32_t guessed);
 
 uint32_t date(int year, uint32_t month, uint32_t day, uint32_t hour);
 
@@ -24,5 +26,9 @@ void books(void);
 /* ---- header_gaps.c */
 
 void gaps(void);
+
+/* ---- header_leagues.c */
+
+void leagues(void);
 
 #endif

@@ -7,11 +7,11 @@
 static const uint32_t fields[] = {0, 1, 3, 4, 500, 501, 65535, 65536, 65539, 66036, 0x80000003, UINT32_MAX};
 #define FIELDS (sizeof fields / sizeof fields[0])
 
-static int is_field(uint32_t field) { return 1 <= field && field <= 65535; }
+int is_field(uint32_t field) { return 1 <= field && field <= 65535; }
 
-static int has_guess(uint32_t kind) { return is_kind(kind) && kind != 1 && kind != 4; }
+int has_guess(uint32_t kind) { return is_kind(kind) && kind != 1 && kind != 4; }
 
-static int reads_numbers(uint32_t kind) { return is_kind(kind) && kind != 4; }
+int reads_numbers(uint32_t kind) { return is_kind(kind) && kind != 4; }
 
 static uint32_t some_field(void) { return fields[random_word() % FIELDS]; }
 

@@ -108,4 +108,18 @@ unsafe extern "C" {
         out: *mut u32,
         out_len: usize,
     ) -> Answer;
+    pub fn pq_leagues_new(b: *mut u8, n: usize) -> Answer;
+    pub fn pq_leagues_check(b: *const u8, n: usize, league: u32) -> Answer;
+    pub fn pq_leagues_declare(b: *mut u8, n: usize, league: u32, field: u32, kind: u32) -> Answer;
+    pub fn pq_leagues_remove(b: *mut u8, n: usize, league: u32, field: u32) -> Answer;
+    pub fn pq_leagues_lookup(
+        b: *const u8,
+        n: usize,
+        league: u32,
+        field: u32,
+        game_kind: u32,
+        number: i32,
+    ) -> Lookup;
+    pub fn pq_leagues_entry(b: *const u8, n: usize, league: u32, place: usize) -> Record;
+    pub fn pq_leagues_from_table(from: *const u8, n: usize, to: *mut u8, room: usize) -> Answer;
 }

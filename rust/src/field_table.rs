@@ -70,7 +70,7 @@ pub enum DateKind {
 }
 
 impl DateKind {
-    fn code(self) -> u32 {
+    pub(crate) fn code(self) -> u32 {
         match self {
             DateKind::R => RawDate::KIND,
             DateKind::D => Date::KIND,
@@ -106,7 +106,7 @@ pub enum GameKind {
 }
 
 impl GameKind {
-    fn code(self) -> u32 {
+    pub(crate) fn code(self) -> u32 {
         match self {
             GameKind::D => Date::KIND,
             GameKind::H => DateHour::KIND,
@@ -125,6 +125,18 @@ pub struct Entry {
     pub kind: DateKind,
 }
 
+impl Entry {
+    pub(crate) fn told(found: ffi::Record) -> Result<Entry, Refusal> {
+        match found.refusal {
+            0 => Ok(Entry {
+                field: found.field,
+                kind: DateKind::from_code(found.kind),
+            }),
+            number => Err(Refusal::told(number, found.value)),
+        }
+    }
+}
+
 /// What a number in a field is, and by which of the two ways.
 #[derive(Clone, Copy, Debug, PartialEq, Eq, Hash)]
 pub enum Looked {
@@ -135,7 +147,7 @@ pub enum Looked {
 }
 
 impl Looked {
-    fn told(found: ffi::Lookup) -> Result<Looked, Refusal> {
+    pub(crate) fn told(found: ffi::Lookup) -> Result<Looked, Refusal> {
         if found.refusal != 0 {
             return Err(Refusal::told(found.refusal, found.value));
         }
@@ -179,14 +191,7 @@ pub fn check(table: &[u8]) -> Result<usize, Refusal> {
 /// ```
 pub fn entry(table: &[u8], place: usize) -> Result<Entry, Refusal> {
     // SAFETY: the pointer and the length are those of a slice.
-    let found = unsafe { ffi::pq_table_entry(table.as_ptr(), table.len(), place) };
-    match found.refusal {
-        0 => Ok(Entry {
-            field: found.field,
-            kind: DateKind::from_code(found.kind),
-        }),
-        number => Err(Refusal::told(number, found.value)),
-    }
+    Entry::told(unsafe { ffi::pq_table_entry(table.as_ptr(), table.len(), place) })
 }
 
 /// The date of a number that stands in a field: by full decoding if the field is declared, by the game's guess if it is

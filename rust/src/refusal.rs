@@ -32,20 +32,22 @@ pub enum Refusal {
     UnreadableLine,
     /// 9: bytes that are no book's, or no table's: under five, or a length that cannot be.
     NotBook,
-    /// 10: a book of another version than the call takes, or a table of another than 1.
+    /// 10: a book or a table of another version than the call takes.
     WrongVersion,
     /// 11: a record that no date of its kind has, or with a mark that its version does not take; with the place of the
     /// first one, from 0.
     BadRecord(usize),
     /// 12: no room for a new book or table, for one more record, or for a book that is moved.
     NoRoom,
-    /// 13: no record, or no entry, at that place.
+    /// 13: no record, or no entry, at that place; of a league, among its own.
     NoRecord,
-    /// 14: a table's entries out of order, or a field or a kind that no entry has, in the table or in the call.
+    /// 14: a table's entries out of order, or a field, a kind or a league that no entry has, in the table or in the call;
+    /// or a table with over 1,024 entries of one league.
     BadEntry,
-    /// 15: a table with 2,048 entries already, or with no room for one more.
+    /// 15: a table with 2,048 entries already, or a league with 1,024 of its own, or no room for one more; or a table to
+    /// be moved that has over 1,024, or that the target has no room for.
     TableFull,
-    /// 16: a field to be removed that the table does not have.
+    /// 16: a field to be removed that the table, or the league, does not have.
     NotThere,
     /// 20: a guessed date for a book of version 1, which takes none.
     GuessedDate,
@@ -134,10 +136,12 @@ impl Refusal {
             Refusal::NoRoom => "the buffer has no room, or the book has 4,096 records already",
             Refusal::NoRecord => "the book or the table has nothing at that place",
             Refusal::BadEntry => {
-                "the table's entries are out of order, or a field or a kind is not allowed"
+                "the table's entries are out of order, or a field, a kind or a league is not allowed"
             }
-            Refusal::TableFull => "the table has 2,048 entries already, or no room for one more",
-            Refusal::NotThere => "the table has no such field to remove",
+            Refusal::TableFull => {
+                "the table or the league has as many entries as it may have, or there is no room"
+            }
+            Refusal::NotThere => "the table or the league has no such field to remove",
             Refusal::GuessedDate => "a book of version 1 takes no guessed date",
             Refusal::FieldOrMark(_) => {
                 "version 1 cannot keep the field number or the mark of the record"

@@ -3,3 +3,4 @@ pub mod Sizes
 pub mod BookSizes
 pub mod GapSizes
 pub mod TableLaws
+pub mod LeagueSizes

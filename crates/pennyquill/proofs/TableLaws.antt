@@ -31,24 +31,25 @@ use Rattle.pennyquill.specs.Tables.{asked, lookups}
 sensible : Sensible (tableFrame table1)
 sensible = sensible-table table1 (lit< tt)
 
-few : (t : List ℕ) (rs : List (List ℕ)) → entries table1 t ≡ Gives rs → length rs ≤ 2048
-few t rs e = found-holds table1 sensible t rs e .framed .most
+few : (t : List ℕ) (rs : List (List ℕ)) → entries table1 t ≡ Gives rs → length rs ≤ 4096
+few t rs e = let m = found-holds table1 sensible t rs e .framed .most in omega arith
 
-module _ (x : Answer (List (List ℕ))) (most : (rs : List (List ℕ)) → x ≡ Gives rs → length rs ≤ 2048) where
-  counted-few : (n : ℕ) → Gives n ≡ counted x → n ≤ 2048
+-- of entries that are never many, whatever table they come from
+module _ (x : Answer (List (List ℕ))) (most : (rs : List (List ℕ)) → x ≡ Gives rs → length rs ≤ 4096) where
+  counted-few : (n : ℕ) → Gives n ≡ counted x → n ≤ 4096
   unfolding counted
   counted-few n e =
       let g = then-met x (λ rs. Gives (length rs)) n (sym e) in
       let m = most (g .value) (g .is) in
       let z : length (g .value) ≡ n = cc (g .next) in omega arith
 
-  checked-by : (r : Checked) → checkedAs r ≡ counted x → numberOf (checkedAs r) ≤ 4096
+  pub checked-by : (r : Checked) → checkedAs r ≡ counted x → numberOf (checkedAs r) ≤ 4096
   checked-by (C.Entries n) e = omega (arith, counted-few n e)
   checked-by C.BadLength e = omega arith
   checked-by C.BadVersion e = omega arith
   checked-by C.BadEntry e = omega arith
 
-  changed-by : (r : Changed) → changedAs r ≡ counted x → numberOf (changedAs r) ≤ 4096
+  pub changed-by : (r : Changed) → changedAs r ≡ counted x → numberOf (changedAs r) ≤ 4096
   changed-by (G.Entries n) e = omega (arith, counted-few n e)
   changed-by G.BadLength e = omega arith
   changed-by G.BadVersion e = omega arith

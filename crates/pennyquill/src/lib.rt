@@ -5,6 +5,7 @@ mod crossing;
 mod dates;
 mod days;
 mod gaps;
+mod leagues;
 mod tables;
 mod texts;
 mod versions;

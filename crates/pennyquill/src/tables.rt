@@ -27,7 +27,7 @@ const MOST_ASKED: usize = 4294967295;
 
 // ---- answers
 
-fn count_crossed(checked: Checked) -> PqAnswer
+pub fn count_crossed(checked: Checked) -> PqAnswer
     requires { ⌜ numberOf (checkedAs checked) ≤ 4096 ⌝ }
     ensures { λ r. ⌜ r ≡ crossed (checkedAs checked) ⌝ }
 {
@@ -39,7 +39,7 @@ fn count_crossed(checked: Checked) -> PqAnswer
     }
 }
 
-fn change_crossed(changed: Changed) -> PqAnswer
+pub fn change_crossed(changed: Changed) -> PqAnswer
     requires { ⌜ numberOf (changedAs changed) ≤ 4096 ⌝ }
     ensures { λ r. ⌜ r ≡ crossed (changedAs changed) ⌝ }
 {
@@ -53,7 +53,7 @@ fn change_crossed(changed: Changed) -> PqAnswer
     }
 }
 
-fn entry_crossed(entry: Entry) -> PqRecord
+pub fn entry_crossed(entry: Entry) -> PqRecord
     ensures { λ r. ⌜ r ≡ entryCrossed (entryAs entry) ⌝ }
 {
     match entry {
@@ -81,7 +81,7 @@ fn not_looked(n: u8) -> PqLookup
     }
 }
 
-fn look_crossed(looked: Looked) -> PqLookup
+pub fn look_crossed(looked: Looked) -> PqLookup
     ensures { λ r. ⌜ r ≡ lookupCrossed (lookedAs looked) ⌝ }
 {
     match looked {

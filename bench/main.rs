@@ -4,6 +4,7 @@ mod books;
 mod bounded;
 mod gaps;
 mod inputs;
+mod leagues;
 mod measure;
 mod plain_book;
 mod plain_gaps;

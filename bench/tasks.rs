@@ -7,6 +7,7 @@ use crate::inputs::{
     Day, all_days, days, declared, dotted, dotted_at_noon, dotted_padded, iso, numbers, questions,
     steps, table, texts, uniform,
 };
+use crate::leagues;
 use crate::measure::{Times, compare};
 use crate::plain_table::{self, Kind};
 use eu5save::Eu5Date;
@@ -36,6 +37,7 @@ pub fn all(show: Show) {
     gaps::all(show);
     look_up_each(show);
     look_up_all(show);
+    leagues::all(show);
 }
 
 fn reading(show: Show) {

@@ -24,6 +24,10 @@ mod gaps;
 mod generated;
 mod handed_in;
 mod iso_texts;
+mod league_isolation;
+mod league_moves;
+mod league_questions;
+mod leagues;
 mod leaves;
 mod lines;
 mod long_numbers;
@@ -54,7 +58,7 @@ use std::process::ExitCode;
 type Subject = fn(Extent, &mut Report);
 
 /// What takes longest comes last.
-const SUBJECTS: [(&str, Subject); 15] = [
+const SUBJECTS: [(&str, Subject); 16] = [
     ("numbers", numbers::run),
     ("fields", fields::run),
     ("texts", texts::run),
@@ -66,6 +70,7 @@ const SUBJECTS: [(&str, Subject); 15] = [
     ("books2", second_books::run),
     ("gaps", gaps::run),
     ("tables", tables::run),
+    ("leagues", leagues::run),
     ("lines", lines::run),
     ("iso", iso_texts::run),
     ("spellings", spellings::run),

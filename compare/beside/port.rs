@@ -156,3 +156,49 @@ pub fn table_lookup_all(
         )
     }
 }
+
+pub fn leagues_new(table: &mut [u8]) -> Answer {
+    // SAFETY: as above.
+    unsafe { ffi::pq_leagues_new(table.as_mut_ptr(), table.len()) }
+}
+
+/// This table and the next two are lent as ours alone too, though nothing may be written there: so a change
+/// would be seen.
+pub fn leagues_check(table: &mut [u8], league: u32) -> Answer {
+    // SAFETY: as above.
+    unsafe { ffi::pq_leagues_check(table.as_mut_ptr(), table.len(), league) }
+}
+
+pub fn leagues_entry(table: &mut [u8], league: u32, place: usize) -> Record {
+    // SAFETY: as above.
+    unsafe { ffi::pq_leagues_entry(table.as_mut_ptr(), table.len(), league, place) }
+}
+
+pub fn leagues_lookup(
+    table: &mut [u8],
+    league: u32,
+    field: u32,
+    game_kind: u32,
+    number: i32,
+) -> Lookup {
+    let (bytes, length) = (table.as_mut_ptr(), table.len());
+    // SAFETY: as above.
+    unsafe { ffi::pq_leagues_lookup(bytes, length, league, field, game_kind, number) }
+}
+
+pub fn leagues_declare(table: &mut [u8], league: u32, field: u32, kind: u32) -> Answer {
+    // SAFETY: as above.
+    unsafe { ffi::pq_leagues_declare(table.as_mut_ptr(), table.len(), league, field, kind) }
+}
+
+pub fn leagues_remove(table: &mut [u8], league: u32, field: u32) -> Answer {
+    // SAFETY: as above.
+    unsafe { ffi::pq_leagues_remove(table.as_mut_ptr(), table.len(), league, field) }
+}
+
+/// The table that is moved is lent as ours alone here too.
+pub fn leagues_from_table(from: &mut [u8], to: &mut [u8]) -> Answer {
+    let (table, length) = (from.as_mut_ptr(), from.len());
+    // SAFETY: as above.
+    unsafe { ffi::pq_leagues_from_table(table, length, to.as_mut_ptr(), to.len()) }
+}

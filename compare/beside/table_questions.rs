@@ -23,14 +23,14 @@ pub struct Questions<'a> {
     pub room: usize,
 }
 
-fn told<T>(answer: Result<T, u8>, value: impl FnOnce(T) -> u32) -> Answer {
+pub fn told<T>(answer: Result<T, u8>, value: impl FnOnce(T) -> u32) -> Answer {
     match answer {
         Ok(given) => gives(value(given)),
         Err(refusal) => refused(refusal.into()),
     }
 }
 
-fn entries(count: usize) -> u32 {
+pub fn entries(count: usize) -> u32 {
     count as u32
 }
 
@@ -60,7 +60,13 @@ pub fn check(tally: &mut Tally, buffer: &[u8]) {
 }
 
 pub fn entry(tally: &mut Tally, buffer: &[u8], place: usize) {
-    let right = match table::entry(buffer, place) {
+    let right = told_entry(table::entry(buffer, place));
+    let asked = || format!("entry {place} of {}", shown(buffer));
+    tally.hold(right, port::table_entry(buffer, place), asked);
+}
+
+pub fn told_entry(entry: Result<Entry, u8>) -> Record {
+    match entry {
         Ok(Entry { field, kind }) => Record {
             refusal: 0,
             kind: number_of(kind).into(),
@@ -73,9 +79,7 @@ pub fn entry(tally: &mut Tally, buffer: &[u8], place: usize) {
             value: 0,
             field: 0,
         },
-    };
-    let asked = || format!("entry {place} of {}", shown(buffer));
-    tally.hold(right, port::table_entry(buffer, place), asked);
+    }
 }
 
 pub fn declare(tally: &mut Tally, buffer: &mut [u8], field: u32, code: u32) {
@@ -99,7 +103,11 @@ pub fn remove(tally: &mut Tally, buffer: &mut [u8], field: u32) {
 }
 
 fn looked(buffer: &[u8], field: u32, game: u32, number: i32) -> Lookup {
-    match table::lookup(buffer, field, game, number) {
+    told_looked(table::lookup(buffer, field, game, number))
+}
+
+pub fn told_looked(looked: Result<Looked, u8>) -> Lookup {
+    match looked {
         Ok(Looked {
             is_guessed,
             kind,

@@ -19,6 +19,11 @@ mod gap_scenes;
 mod iso_texts;
 mod julian;
 mod leading;
+mod league_apart;
+mod league_damage;
+mod league_moves;
+mod league_scenes;
+mod league_script;
 mod listing_lines;
 mod listings;
 mod marks;
@@ -68,6 +73,7 @@ const ISO_STREAM: u64 = TABLE_STREAM + 1;
 const UNMARKED_STREAM: u64 = ISO_STREAM + 1;
 const VERSION_STREAM: u64 = UNMARKED_STREAM + 1;
 const GAP_STREAM: u64 = VERSION_STREAM + 1;
+const LEAGUE_STREAM: u64 = GAP_STREAM + 1;
 
 fn main() {
     let folder = std::env::args_os().nth(1).expect("usage: generate FOLDER");
@@ -85,10 +91,16 @@ fn main() {
         + &table_scenes::all(TABLE_STREAM)
         + &version_scenes::all(VERSION_STREAM)
         + &gap_scenes::all(GAP_STREAM);
-    fs::write(folder.join("book.script"), &script).expect("the file can be written");
-    println!("book.script: {} lines", script.lines().count());
+    write_script(folder, "book.script", &script);
+    let script = league_scenes::all(LEAGUE_STREAM);
+    write_script(folder, "leagues.script", &script);
     write_questions(folder, "isos", ISO_STREAM, iso_texts::ask);
     write_questions(folder, "unmarked", UNMARKED_STREAM, marks::ask);
+}
+
+fn write_script(folder: &Path, name: &str, script: &str) {
+    fs::write(folder.join(name), script).expect("the file can be written");
+    println!("{name}: {} lines", script.lines().count());
 }
 
 /// Those that the second reading answers.

@@ -6,6 +6,7 @@ pub mod exchange;
 pub mod gaps;
 pub mod iso;
 pub mod kinds;
+pub mod league_table;
 pub mod listing;
 pub mod marks;
 pub mod moves;

@@ -6,6 +6,7 @@
 //!                                          the page or the original says of the same
 //!     second listing < input               what `datelist` writes for the input
 //!     second book < script                 the answers of book operations and table operations
+//!     second leagues < script              the answers of operations on tables of two leagues
 //!     second gaps < book                   what `gaps` writes for the book
 //!     second isos < questions              the ISO texts of the questions with what is read
 //!     second unmarked < questions          the dates of the questions without their marks
@@ -18,6 +19,9 @@ mod gap_trials;
 mod gaps;
 mod iso;
 mod kinds;
+mod league_script;
+mod league_table;
+mod league_trials;
 mod listing;
 mod mark_trials;
 mod marks;
@@ -44,15 +48,17 @@ fn main() {
             mark_trials::try_all();
             version_trials::try_all();
             gap_trials::try_all();
+            league_trials::try_all();
             page::example().as_bytes().to_vec()
         }
         "listing" => listing::output(&input()),
         "book" => script::run(&input_text()).into_bytes(),
+        "leagues" => league_script::run(&input_text()).into_bytes(),
         "gaps" => gaps::printed(&input()).into_bytes(),
         "isos" => iso::rows(&input_text()).into_bytes(),
         "unmarked" => marks::rows(&input_text()).into_bytes(),
         _ => panic!(
-            "usage: second exchanges | constants | example | listing | book | gaps | isos | unmarked"
+            "usage: second exchanges | constants | example | listing | book | leagues | gaps | isos | unmarked"
         ),
     };
     io::stdout()

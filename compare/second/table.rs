@@ -23,7 +23,7 @@ const HEAD: usize = 5;
 const ENTRY: usize = 3;
 
 /// What an operation gives, or the number of its refusal; none of them has a place.
-type Answer<T> = Result<T, u8>;
+pub type Answer<T> = Result<T, u8>;
 
 /// A declared field and its kind.
 #[derive(Clone, Copy, PartialEq, Eq)]
@@ -50,18 +50,18 @@ impl Entry {
 }
 
 /// "field number (1 to 65,535)".
-fn field_of(field: u32) -> Option<u16> {
+pub fn field_of(field: u32) -> Option<u16> {
     u16::try_from(field).ok().filter(|&field| field >= 1)
 }
 
 /// "kind code 1, 2, 3, 5 or 6": every kind but U, which reads no number.
-fn declared_kind(code: u32) -> Option<Kind> {
+pub fn declared_kind(code: u32) -> Option<Kind> {
     let declared = [Kind::R, Kind::D, Kind::H, Kind::E, Kind::V];
     kind_of(code).filter(|kind| declared.contains(kind))
 }
 
 /// "a game kind (2, 3, 5 or 6)": those that guess.
-fn game_kind(code: u32) -> Option<Kind> {
+pub fn game_kind(code: u32) -> Option<Kind> {
     let guessing = [Kind::D, Kind::H, Kind::E, Kind::V];
     kind_of(code).filter(|kind| guessing.contains(kind))
 }
@@ -101,7 +101,7 @@ pub fn check(buffer: &[u8]) -> Answer<usize> {
 }
 
 /// Every entry of the table, in its order.
-fn entries(buffer: &[u8]) -> Answer<Vec<Entry>> {
+pub fn entries(buffer: &[u8]) -> Answer<Vec<Entry>> {
     let count = framed(buffer)?;
     let table = &buffer[start(0)..start(count)];
     let read: Option<Vec<Entry>> = table.chunks(ENTRY).map(Entry::from_bytes).collect();
@@ -206,6 +206,11 @@ pub fn lookup(buffer: &[u8], field: u32, game: u32, number: i32) -> Answer<Looke
     let field = field_of(field).ok_or(14)?;
     let game = game_kind(game).ok_or(14)?;
     let declared = place_of(&entries, field).map(|place| entries[place].kind);
+    looked(declared, game, number)
+}
+
+/// What is given for a number of a field, by what the field is declared as, if it is.
+pub fn looked(declared: Option<Kind>, game: Kind, number: i32) -> Answer<Looked> {
     let is_guessed = declared.is_none();
     let (kind, fields) = match declared {
         Some(kind) => (kind, decoding(kind, number)),

@@ -20,16 +20,16 @@ pub fn operate(buffer: &mut [u8], words: &[&str]) -> Result<String, u8> {
     }
 }
 
-fn told_number(entries: usize) -> String {
+pub fn told_number(entries: usize) -> String {
     entries.to_string()
 }
 
-fn told_entry(entry: Entry) -> String {
+pub fn told_entry(entry: Entry) -> String {
     let Entry { field, kind } = entry;
     format!("{field} {}", kind.letter())
 }
 
-fn told_looked(looked: Looked) -> String {
+pub fn told_looked(looked: Looked) -> String {
     let Looked {
         is_guessed,
         kind,

@@ -1,0 +1,141 @@
+// What a script does to its buffer outside the operations. What can miss the buffer says whether it was done.
+
+// One byte; or the entries of so many fields from the first on, all of one code, from a place on: of version 1 in three bytes each, of
+// version 2 in four, with the league before the field.
+pub(crate) enum Setting {
+    Byte {
+        place: usize,
+        byte: u8,
+    },
+    Entries {
+        place: usize,
+        first: usize,
+        count: usize,
+        code: u8,
+    },
+    Shares {
+        place: usize,
+        league: u8,
+        first: usize,
+        count: usize,
+        code: u8,
+    },
+}
+
+pub(crate) fn set(buffer: &mut [u8], setting: Setting) -> bool {
+    match setting {
+        Setting::Byte { place, byte } => set_byte(buffer, place, byte),
+        Setting::Entries {
+            place,
+            first,
+            count,
+            code,
+        } => entries(buffer, place, first, count, code),
+        Setting::Shares {
+            place,
+            league,
+            first,
+            count,
+            code,
+        } => shares(buffer, place, league, first, count, code),
+    }
+}
+
+pub(crate) fn fill(buffer: &mut [u8], byte: u8) {
+    let mut i = 0;
+    while i < buffer.len() {
+        buffer[i] = byte;
+        i += 1;
+    }
+}
+
+// The target of a move, as the buffer.
+pub(crate) fn put(buffer: &mut [u8], target: &[u8]) -> bool {
+    if buffer.len() == target.len() {
+        bytes::copy(target, buffer);
+        return true;
+    }
+    false
+}
+
+// The buffer in use and the other one, as long as it.
+pub(crate) fn swap(here: &mut [u8], there: &mut [u8]) -> bool {
+    if here.len() != there.len() {
+        return false;
+    }
+    let mut i = 0;
+    while i < here.len() {
+        let byte = here[i];
+        let other = there[i];
+        here[i] = other;
+        there[i] = byte;
+        i += 1;
+    }
+    true
+}
+
+fn set_byte(buffer: &mut [u8], place: usize, byte: u8) -> bool {
+    if place < buffer.len() {
+        buffer[place] = byte;
+        return true;
+    }
+    false
+}
+
+fn entries(buffer: &mut [u8], place: usize, first: usize, count: usize, code: u8) -> bool {
+    if 65536 < count {
+        return false;
+    }
+    if 65536 - count < first {
+        return false;
+    }
+    if buffer.len() < 3 * count {
+        return false;
+    }
+    if buffer.len() - 3 * count < place {
+        return false;
+    }
+    let mut i = 0;
+    while i < count {
+        let field = first + i;
+        let at = place + 3 * i;
+        buffer[at] = (field / 256) as u8;
+        buffer[at + 1] = (field % 256) as u8;
+        buffer[at + 2] = code;
+        i += 1;
+    }
+    true
+}
+
+fn shares(
+    buffer: &mut [u8],
+    place: usize,
+    league: u8,
+    first: usize,
+    count: usize,
+    code: u8,
+) -> bool {
+    if 65536 < count {
+        return false;
+    }
+    if 65536 - count < first {
+        return false;
+    }
+    if buffer.len() < 4 * count {
+        return false;
+    }
+    if buffer.len() - 4 * count < place {
+        return false;
+    }
+    let mut i = 0;
+    while i < count {
+        let field = first + i;
+        let at = place + 4 * i;
+        buffer[at] = league;
+        buffer[at + 1] = (field / 256) as u8;
+        buffer[at + 2] = (field % 256) as u8;
+        buffer[at + 3] = code;
+        i += 1;
+    }
+    true
+}

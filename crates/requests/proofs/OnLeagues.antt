@@ -1,3 +1,6 @@
 -- A table that two leagues share.
 pub mod OwnLaws
 pub mod SharedLaws
+pub mod AfterLaws
+pub mod ApartLaws
+pub mod RunLaws

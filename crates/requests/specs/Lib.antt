@@ -9,3 +9,4 @@ pub mod Moves
 pub mod Gaps
 pub mod GapReport
 pub mod Leagues
+pub mod LeagueRuns

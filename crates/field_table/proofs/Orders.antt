@@ -7,22 +7,18 @@ use native.Mathlib.Omega.{arith}
 use borrow.Author.Tests.{lt-ltb, le-ltb}
 use lib.ListN.{length, getD, take, drop}
 use lib.Seq.{getD-take, getD-drop}
-use Rattle.rules.specs.Refusals.{Answer, Gives, Refused, RefusedAt, _then_, given}
+use Rattle.rules.specs.Refusals.{given}
 use Rattle.rules.specs.Book.{headSize, pieces}
 use Rattle.rules.proofs.OnKinds.KindLaws.{yes-within}
 use Rattle.requests.specs.Entries.{ascends}
 use Rattle.requests.specs.FieldTable.{keyIn, codeIn, isKey, declaredKind, declaring, declaredBy, allDeclare, inOrder}
 use Rattle.requests.proofs.OnLaid.CutLaws.{turn}
+use Rattle.requests.proofs.OnFieldTable.EntryLaws.{given-then, declares-by}
 
 -- the code of the entry that starts at `at`
 pub code-here : (s : List ℕ) (at keySize : ℕ) → codeIn keySize (take (keySize + 1) (drop at s)) ≡ getD s (at + keySize) 0
 unfolding codeIn
 code-here s at keySize = getD-take (keySize + 1) (drop at s) keySize 0 (omega arith) ∙ getD-drop at s keySize 0
-
-given-then : {A B : Type 0} (x : Answer A) (f : A → B) → given (x then λ a. Gives (f a)) ≡ given x
-given-then (Gives a) f = refl
-given-then (Refused n) f = refl
-given-then (RefusedAt n place) f = refl
 
 -- ---- one entry
 
@@ -32,8 +28,7 @@ module _ (keySize : ℕ) (r : List ℕ) where
 
   -- a key that is above another declares what its code does
   by-code : (low : ℕ) → low < keyIn keySize r → keyIn keySize r < 256 ^ keySize → given (declaredBy keySize r) ≡ given (declaredKind (codeIn keySize r))
-  unfolding declaredBy declaring
-  by-code low g h = rw (above-zero low g h) (given-then (declaredKind (codeIn keySize r)) _)
+  by-code low g h = declares-by keySize r (above-zero low g h)
 
   no-code : given (declaredKind (codeIn keySize r)) ≡ false → given (declaredBy keySize r) ≡ false
   unfolding declaredBy declaring

@@ -4,3 +4,5 @@ pub mod SharedLaws
 pub mod AfterLaws
 pub mod ApartLaws
 pub mod RunLaws
+pub mod LookupLaws
+pub mod MoveLaws

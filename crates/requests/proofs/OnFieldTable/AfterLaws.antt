@@ -38,7 +38,7 @@ module _ (table : TableFormat) (sensible : Sensible (tableFrame table)) where
       rw (h .framed .cut) at (pieces-long (length rs) (entrySize table) (drop headSize s) (rw length-drop (omega arith)))
 
   -- entries laid out are a table of them
-  laid-entries : (rs : List (List ℕ)) (y : List ℕ) → Each (Long (entrySize table)) rs → length rs ≤ table .most → allDeclare w rs ≡ true → ascends key 0 rs ≡ true →
+  pub laid-entries : (rs : List (List ℕ)) (y : List ℕ) → Each (Long (entrySize table)) rs → length rs ≤ table .most → allDeclare w rs ≡ true → ascends key 0 rs ≡ true →
       entries table (laid (tableFrame table) rs ++ y) ≡ Gives rs
   laid-entries rs y l m a o =
       holds-found table sensible _ rs (record { framed = laid-framed (tableFrame table) sensible rs y m l; declare = a; order = o })

@@ -19,6 +19,11 @@ use Rattle.requests.specs.Entries.{keep, standing, declare}
 use Rattle.requests.specs.FieldTable.{badEntry, keyIn, codeIn, isKey, kindAmong, declaredKind, Declared, declaring, declaredBy, entryBytes, entryFor, allDeclare}
 use Rattle.requests.proofs.OnEntries.KeepLaws.{either}
 
+pub given-then : {A B : Type 0} (x : Answer A) (f : A → B) → given (x then λ a. Gives (f a)) ≡ given x
+given-then (Gives a) f = refl
+given-then (Refused n) f = refl
+given-then (RefusedAt n place) f = refl
+
 -- ---- kinds by their codes
 
 by-code : (n : ℕ) (k : Kind) → kindBy kindCode n (kindCode k) ≡ Gives k
@@ -76,7 +81,12 @@ module _ (keySize : ℕ) where
   -- ---- an entry's bytes
 
   module _ (r : List ℕ) where
-    some-declared : given (declaredBy keySize r) ≡ true → isKey keySize (keyIn keySize r) ≡ true
+    -- a key in its range declares what its code does
+    pub declares-by : isKey keySize (keyIn keySize r) ≡ true → given (declaredBy keySize r) ≡ given (declaredKind (codeIn keySize r))
+    unfolding declaredBy declaring
+    declares-by h = rw h (given-then (declaredKind (codeIn keySize r)) _)
+
+    pub some-declared : given (declaredBy keySize r) ≡ true → isKey keySize (keyIn keySize r) ≡ true
     unfolding declaredBy declaring
     some-declared g =
         either (isKey keySize (keyIn keySize r)) (λ h. h) (λ h. let z : false ≡ true = rw h at g in let w : _≡_ {A = ℕ} 0 1 = cc in absurd (omega arith))

@@ -1,21 +1,16 @@
 -- A record written as one of another size, and a book of such records: as the code stores them, they are what `recast` and `layBuffer` say.
 -- Over both sizes. Assumes nothing.
 use mathlib.Core.Path.{_≡_, refl, sym, ap, _∙_}
-use mathlib.Core.Bool.{true}
-use mathlib.Core.List.{List, [], _∷_, _++_, map, map-append, append-assoc}
+use mathlib.Core.List.{List, [], _∷_}
 use Prim.Native.Nat.{ℕ, zero, suc, _+_, _*_, _-_, _≤_, _<_}
-use native.Mathlib.Nat.{add-zero, zero-add}
 use native.Mathlib.Omega.{arith}
 use borrow.Author.Tests.{le-leb, lt-leb}
-use lib.Dec.{leb}
-use lib.ListN.{length, getD, take, drop, set, replicate, length-set, length-append, length-drop, length-map, length-replicate}
+use lib.ListN.{length, getD, take, drop, set, length-set, length-append, length-drop, length-replicate}
 use lib.Seq.{sets, sets-eq, paste, take-length, length-take-le, drop-drop}
 use Rattle.rules.specs.Words.{bigBytes}
 use Rattle.rules.specs.Refusals.{Gives, Refused, noRoom}
 use Rattle.rules.specs.Book.{lengthSize, headSize, pieces}
 use Rattle.rules.proofs.Shared.Rests.{here}
-use Rattle.rules.proofs.OnWords.ByteLaws.{byte-count}
-use Rattle.rules.proofs.OnBook.PieceLaws.{piece-count}
 use Rattle.requests.specs.Laid.{joined}
 use Rattle.requests.proofs.OnLaid.LaidLaws.{Long}
 use Rattle.requests.proofs.OnLaid.StoreLaws as S

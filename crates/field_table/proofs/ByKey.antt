@@ -1,12 +1,12 @@
 -- What an entry declares, from its bytes, and a number looked up by where its key was found. Over the bytes of a key. Assumes nothing.
-use mathlib.Core.Path.{_≡_, refl, sym, ap, _∙_}
-use mathlib.Core.Bool.{Bool, true, _&&_}
+use mathlib.Core.Path.{_≡_, sym, ap, _∙_}
+use mathlib.Core.Bool.{true}
 use mathlib.Core.List.{List, []}
 use Prim.Native.Nat.{ℕ, zero, suc, _+_, _*_, _^_, _≤_, _<_}
 use native.Mathlib.Omega.{arith}
 use lib.IntN.{ℤ}
 use lib.ListN.{getD, take, drop}
-use Rattle.rules.specs.Refusals.{Answer, Gives, Refused, _then_, given}
+use Rattle.rules.specs.Refusals.{Gives, Refused, _then_, given}
 use Rattle.rules.specs.Kinds.{Kind}
 use Rattle.rules.specs.Book.{headSize}
 use Rattle.rules.proofs.OnKinds.KindLaws.{left, right}

@@ -1,23 +1,23 @@
 -- The calls of version 1, by what the check and the tests of a call answered. Assumes nothing.
 use mathlib.Core.Path.{_≡_, refl, sym, ap, subst, _∙_}
 use mathlib.Core.Bool.{Bool, true, false}
-use mathlib.Core.List.{List, [], _∷_}
+use mathlib.Core.List.{List}
 use Prim.Native.Nat.{ℕ, _+_, _*_, _-_, _/_, _≤_, _<_}
 use native.Mathlib.Omega.{arith}
 use lib.Dec.{T, lit<}
 use lib.IntN.{ℤ}
 use lib.ListN.{length, take, drop}
 use lib.Seq.{drop-drop}
-use Rattle.rules.specs.Refusals.{Answer, Gives, Refused, RefusedAt, _then_, demand, given, noRecord}
+use Rattle.rules.specs.Refusals.{Answer, Gives, Refused, RefusedAt, _then_, given, noRecord}
 use Rattle.rules.specs.Kinds.{Kind, Fields, Stored, storeWith}
-use Rattle.rules.specs.Book.{headSize, lengthSaid, versionOf, pieces, pick}
+use Rattle.rules.specs.Book.{headSize, lengthSaid, versionOf, pick}
 use Rattle.rules.proofs.OnBook.PieceLaws.{piece-count, pick-past, pick-piece}
 use Rattle.rules.proofs.OnBook.FrameLaws.{Sensible, same-refusal}
 use Rattle.requests.specs.Entries.{ascends, standing}
 use Rattle.requests.specs.Laid.{laid}
-use Rattle.requests.specs.FieldTable.{TableFormat, tableFrame, table1, badEntry, keyIn, isKey, declaredKind, gameKind, Declared, declaredBy, entryBytes, entryFor, entries, inOrder, counted, check, entryAt, declareIn, removeIn, declared, removed, tableBuffer, declareBuffer, removeBuffer, Looked, lookedMark, lookBy, gameFor, lookup}
+use Rattle.requests.specs.FieldTable.{TableFormat, tableFrame, table1, badEntry, keyIn, isKey, declaredKind, gameKind, declaredBy, entryBytes, entryFor, entries, inOrder, counted, check, entryAt, declareIn, removeIn, declared, removed, tableBuffer, declareBuffer, removeBuffer, Looked, lookedMark, lookBy, gameFor, lookup}
 use Rattle.requests.proofs.OnFieldTable.EntryLaws.{declares, no-key, no-kind, all-here}
-use Rattle.requests.proofs.OnFieldTable.HeldLaws.{Holds, sensible-table, check-entries, check-holds, check-fits, check-most, check-says}
+use Rattle.requests.proofs.OnFieldTable.HeldLaws.{sensible-table, check-entries, check-holds, check-fits, check-most, check-says}
 use Rattle.field_table.specs.Search.{Room, entriesIn}
 use Rattle.field_table.specs.Views.{tableOf, Bits, inBits}
 

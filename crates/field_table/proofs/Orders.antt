@@ -1,17 +1,17 @@
 -- A turn of the check that n entries declare fields in order: what is left of them from place i on. Over the bytes of a key. Assumes nothing.
-use mathlib.Core.Path.{_≡_, refl, ap, _∙_}
+use mathlib.Core.Path.{_≡_, refl, _∙_}
 use mathlib.Core.Bool.{Bool, true, false, _&&_, and-false}
-use mathlib.Core.List.{List, [], _∷_}
+use mathlib.Core.List.{List}
 use Prim.Native.Nat.{ℕ, _+_, _*_, _-_, _^_, _≤_, _<_}
 use native.Mathlib.Omega.{arith}
 use borrow.Author.Tests.{lt-ltb, le-ltb}
-use lib.ListN.{length, getD, take, drop}
+use lib.ListN.{getD, take, drop}
 use lib.Seq.{getD-take, getD-drop}
 use Rattle.rules.specs.Refusals.{given}
 use Rattle.rules.specs.Book.{headSize, pieces}
 use Rattle.rules.proofs.OnKinds.KindLaws.{yes-within}
 use Rattle.requests.specs.Entries.{ascends}
-use Rattle.requests.specs.FieldTable.{keyIn, codeIn, isKey, declaredKind, declaring, declaredBy, allDeclare, inOrder}
+use Rattle.requests.specs.FieldTable.{keyIn, codeIn, isKey, declaredKind, declaring, declaredBy, allDeclare}
 use Rattle.requests.proofs.OnLaid.CutLaws.{turn}
 use Rattle.requests.proofs.OnFieldTable.EntryLaws.{given-then, declares-by}
 

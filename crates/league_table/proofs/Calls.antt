@@ -1,31 +1,26 @@
 -- The calls of a league, by what the check and the tests of a call answered. Assumes nothing.
-use mathlib.Core.Path.{_≡_, refl, sym, ap, _∙_}
-use mathlib.Core.Bool.{Bool, true, false, _&&_, _||_}
-use mathlib.Core.List.{List, [], _∷_}
-use Prim.Native.Nat.{ℕ, _+_, _*_, _-_, _≤_, _<_}
+use mathlib.Core.Path.{_≡_, refl, sym, _∙_}
+use mathlib.Core.Bool.{true, false, _&&_}
+use mathlib.Core.List.{List}
+use Prim.Native.Nat.{ℕ, _+_, _*_, _≤_, _<_}
 use native.Mathlib.Omega.{arith}
-use lib.Dec.{ltb}
 use lib.IntN.{ℤ}
 use lib.ListN.{length, take, drop}
 use lib.Seq.{drop-drop}
-use Rattle.rules.specs.Refusals.{Answer, Gives, Refused, RefusedAt, _then_, demand, given, noRecord}
+use Rattle.rules.specs.Refusals.{Gives, Refused, _then_, given, noRecord}
 use Rattle.rules.specs.Kinds.{Kind}
 use Rattle.rules.specs.Book.{headSize, versionOf, pick}
 use Rattle.rules.proofs.OnBook.PieceLaws.{piece-count, pick-past, pick-piece}
-use Rattle.requests.specs.Entries.{some, ascends, keep, place, standing}
-use Rattle.requests.specs.FieldTable.{badEntry, tableFull, keyIn, isKey, declaredKind, gameKind, Declared, declaredBy, entryBytes, entryFor, inOrder, counted, declareIn, removeIn, tableBuffer, lookBy}
-use Rattle.requests.specs.Leagues.{table2, isLeague, isField, keyFor, ownKey, own, shareMost, sharedEntries, ownOf, ownEntries, ownDeclared, ownEntryAt, declareOwn, ownDeclaration, ownDeclareBuffer, ownRemoval, ownRemoveBuffer, ownLookup}
+use Rattle.requests.specs.Entries.{ascends, place, standing}
+use Rattle.requests.specs.FieldTable.{badEntry, keyIn, gameKind, declaredBy, inOrder, counted, tableBuffer, lookBy}
+use Rattle.requests.specs.Leagues.{table2, isLeague, isField, keyFor, own, sharedEntries, ownOf, ownEntries, ownDeclared, ownEntryAt, ownDeclaration, ownDeclareBuffer, ownRemoval, ownRemoveBuffer, ownLookup}
 use Rattle.requests.proofs.OnEntries.OrderLaws.{place-within}
 use Rattle.requests.proofs.OnEntries.PartLaws.{part-pick}
-use Rattle.requests.proofs.OnFieldTable.EntryLaws.{declares, all-here, key-back}
+use Rattle.requests.proofs.OnFieldTable.EntryLaws.{all-here}
 use Rattle.requests.proofs.OnFieldTable.HeldLaws.{Holds, check-fits, check-most}
-use Rattle.requests.proofs.OnLeagues.OwnLaws.{call-own, own-is-key}
-use Rattle.requests.proofs.OnLeagues.SharedLaws.{sensible2, Shared, holds, count-checks, count-entries, count-shared, count-refused}
+use Rattle.requests.proofs.OnLeagues.SharedLaws.{sensible2, holds, count-checks, count-entries, count-shared, count-refused}
 use Rattle.field_table.specs.Search.{Room, entriesIn}
-use Rattle.field_table.specs.Views.{tableOf}
-use Rattle.field_table.proofs.Calls.{any-most}
-use Rattle.league_table.specs.Told.{Countable, ownAfter}
-use Rattle.league_table.proofs.Counts.{places, fewer}
+use Rattle.league_table.proofs.Counts.{places}
 
 -- ---- the check refused
 

@@ -2,17 +2,17 @@
 -- Assumes nothing.
 use mathlib.Core.Path.{_≡_, refl, sym, ap, _∙_}
 use mathlib.Core.Bool.{Bool, true, false, _&&_, _||_}
-use mathlib.Core.List.{List, [], _∷_}
-use Prim.Native.Nat.{ℕ, _+_, _≤_, _<_}
+use mathlib.Core.List.{List}
+use Prim.Native.Nat.{ℕ, _+_, _<_}
 use native.Mathlib.Omega.{arith}
 use lib.Dec.{ltb}
 use lib.ListN.{length}
-use Rattle.rules.specs.Refusals.{Answer, Gives, Refused, _then_, demand}
+use Rattle.rules.specs.Refusals.{Answer, Gives, Refused, demand}
 use Rattle.rules.specs.Kinds.{Kind}
 use Rattle.rules.specs.Book.{versionOf}
-use Rattle.rules.proofs.OnKinds.KindLaws.{left, high}
+use Rattle.rules.proofs.OnKinds.KindLaws.{left}
 use Rattle.requests.specs.Entries.{some, standing, declare, remove}
-use Rattle.requests.specs.FieldTable.{TableFormat, badEntry, tableFull, notThere, keyIn, declaredKind, Declared, entryBytes, entryFor, hasRoom, counted, declareIn, removeIn, tableBuffer}
+use Rattle.requests.specs.FieldTable.{TableFormat, badEntry, tableFull, notThere, keyIn, declaredKind, entryBytes, entryFor, hasRoom, counted, declareIn, removeIn, tableBuffer}
 use Rattle.requests.specs.Leagues.{table2, isLeague, isField, keyFor, ownKey, own, shareMost, sharedEntries, ownOf, declareOwn, ownDeclaration, ownDeclareBuffer, ownRemoval, ownRemoveBuffer}
 use Rattle.requests.proofs.OnEntries.ChangeLaws.{declare-count, remove-count}
 use Rattle.requests.proofs.OnEntries.PartLaws.{own-declare-count, own-remove-count}

@@ -1,22 +1,21 @@
 -- A version 1 table written as one of league 1: an entry's bytes, and each way in which the move answers, with the target then.
 -- Assumes nothing.
-use mathlib.Core.Path.{_≡_, refl, sym, ap, _∙_}
-use mathlib.Core.Bool.{Bool, true, false, _&&_}
-use mathlib.Core.List.{List, [], _∷_, _++_, map}
+use mathlib.Core.Path.{_≡_, refl, sym, ap}
+use mathlib.Core.List.{List, map}
 use Prim.Native.Nat.{ℕ, suc, _+_, _*_, _≤_, _<_}
 use native.Mathlib.Nat.{add-zero}
 use native.Mathlib.Omega.{arith}
 use borrow.Author.Tests.{le-leb, lt-leb}
-use lib.Dec.{leb, lit<}
-use lib.ListN.{length, getD, take, drop, set, replicate}
+use lib.Dec.{lit<}
+use lib.ListN.{length, getD, take, drop, set}
 use lib.Seq.{sets}
 use Rattle.rules.specs.Words.{bigBytes}
-use Rattle.rules.specs.Refusals.{Answer, Gives, Refused, _then_, demand}
+use Rattle.rules.specs.Refusals.{Answer, Gives, Refused}
 use Rattle.rules.specs.Book.{lengthSize, headSize, pieces}
 use Rattle.rules.proofs.Shared.Rests.{here}
 use Rattle.rules.proofs.OnBook.PieceLaws.{piece-count}
 use Rattle.rules.proofs.OnBook.FrameLaws.{Sensible, same-refusal}
-use Rattle.requests.specs.Laid.{joined, laid}
+use Rattle.requests.specs.Laid.{joined}
 use Rattle.requests.specs.FieldTable.{tableFrame, table1, tableFull, entries, counted, check, tableBuffer}
 use Rattle.requests.specs.Leagues.{table2, shareMost, ofFirst, movedEntries, movedBuffer}
 use Rattle.requests.proofs.OnLaid.LaidLaws.{Long}

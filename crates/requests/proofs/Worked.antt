@@ -2,4 +2,5 @@
 pub mod Tables
 pub mod IsoTexts
 pub mod Versions
+pub mod Leagues
 pub mod GapReports

@@ -1,14 +1,13 @@
 -- Document 02, #109, "A second league on one table": the table of #101 at a key that has the league before the field, what one league is
 -- told, and the move of a version 1 table. A league is told of its own entries alone. Assumes nothing.
 use Prim.Native.Nat.{ℕ, _+_, _*_, _%_}
-use mathlib.Core.Bool.{Bool, true, false, _&&_, _||_}
+use mathlib.Core.Bool.{Bool, true, _&&_, _||_}
 use mathlib.Core.List.{List, [], _∷_, map}
 use lib.Dec.{leb, ltb}
 use lib.IntN.{ℤ}
 use lib.ListN.{length}
 use Rattle.rules.specs.Words.{within}
 use Rattle.rules.specs.Refusals.{Answer, Gives, _then_, demand}
-use Rattle.rules.specs.Kinds.{Kind}
 use Rattle.rules.specs.Book.{headSize, pick}
 use Rattle.requests.specs.Entries.{some, keep, standing}
 use Rattle.requests.specs.FieldTable.{TableFormat, entrySize, table1, badEntry, tableFull, keyIn, isKey, Declared, declaredBy, entryFor, entries, declareIn, removeIn, tableBuffer, gameKind, Looked, lookBy}

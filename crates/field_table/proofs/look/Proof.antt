@@ -1,5 +1,5 @@
 -- `field_table::look` meets its contract: the tests of the call, then by the field's entry. Assumes nothing.
-use mathlib.Core.Path.{_≡_, sym, ap, _∙_}
+use mathlib.Core.Path.{sym, ap, _∙_}
 use mir.Facts.{toZ-ofZ}
 use denote.Ref.{now}
 use Rattle.rules.specs.Numbers.{guesses}

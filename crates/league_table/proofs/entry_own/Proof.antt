@@ -1,5 +1,5 @@
 -- `league_table::entry_own` meets its contract: the test of the league, then the entry so far after the league's first. Assumes nothing.
-use mathlib.Core.Path.{_≡_, sym, ap, _∙_}
+use mathlib.Core.Path.{sym, ap, _∙_}
 use native.Mathlib.Omega.{arith}
 use denote.Ref.{now}
 use Rattle.rules.specs.Refusals.{Gives, _then_}

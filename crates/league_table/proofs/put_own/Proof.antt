@@ -5,7 +5,6 @@ use denote.Ref.{now}
 use Rattle.rules.proofs.OnKinds.KindLaws.{high}
 use Rattle.requests.proofs.OnLeagues.OwnLaws.{own-is-key}
 use Rattle.kinds.specs.Views.{kindOf}
-use Rattle.field_table.specs.Views.{changedAs}
 use Rattle.league_table.specs.Told.{ownAfter}
 use Rattle.league_table.proofs.Calls.{room, order, few}
 use Rattle.league_table.proofs.Changes.{own-countable, put-so, put-not}

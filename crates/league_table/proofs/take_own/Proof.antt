@@ -1,5 +1,5 @@
 -- `league_table::take_own` meets its contract: the table's removal, and what the league is told. Assumes nothing.
-use mathlib.Core.Path.{sym, ap, _∙_}
+use mathlib.Core.Path.{ap, _∙_}
 use native.Mathlib.Omega.{arith}
 use denote.Ref.{now}
 use Rattle.league_table.specs.Told.{ownAfter}

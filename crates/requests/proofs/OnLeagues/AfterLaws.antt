@@ -3,23 +3,23 @@
 use mathlib.Core.Path.{_≡_, refl, sym, ap, _∙_}
 use mathlib.Core.Bool.{Bool, true, false, _&&_, _||_}
 use mathlib.Core.List.{List, [], _∷_}
-use Prim.Native.Nat.{ℕ, _+_, _*_, _≤_, _<_}
+use Prim.Native.Nat.{ℕ, _+_, _≤_}
 use native.Mathlib.Omega.{arith}
 use borrow.Author.Tests.{ltb-true, eq-eqb, eqb-true, eqb-false}
 use lib.Dec.{ltb, eqb}
 use lib.ListN.{length}
-use Rattle.rules.specs.Refusals.{Answer, Gives, _then_, demand}
+use Rattle.rules.specs.Refusals.{Gives, _then_}
+use Rattle.rules.specs.Book.{headSize, newBuffer}
 use Rattle.rules.proofs.OnKinds.KindLaws.{left, low, high}
 use Rattle.rules.proofs.OnBook.FrameLaws.{demand-met, then-met}
-use Rattle.requests.specs.Entries.{some, standing, declare, remove}
-use Rattle.requests.specs.FieldTable.{badEntry, tableFull, notThere, keyIn, entries, entryFor, declaring, entryBytes, hasRoom, declareIn, removeIn, declared, removed, tableBuffer, declareBuffer, removeBuffer}
+use Rattle.requests.specs.Entries.{some, keep, standing, declare, remove}
+use Rattle.requests.specs.FieldTable.{badEntry, tableFull, notThere, keyIn, entries, entryFor, declaring, entryBytes, hasRoom, declareIn, removeIn, declared, removed, declareBuffer, removeBuffer}
 use Rattle.requests.specs.Leagues.{table2, isLeague, isField, keyFor, ownKey, own, allOwned, shareMost, sharedEntries, called, declareOwn, ownDeclaration, ownDeclareBuffer, ownRemoval, ownRemoveBuffer}
 use Rattle.requests.proofs.OnEntries.KeepLaws.{either}
 use Rattle.requests.proofs.OnEntries.ChangeLaws.{declare-count, remove-count, declare-other, remove-other}
 use Rattle.requests.proofs.OnEntries.PartLaws.{own-declare-count, own-remove-count}
-use Rattle.requests.proofs.OnFieldTable.EntryLaws.{Allowed, declaring-tells, key-back}
-use Rattle.requests.proofs.OnFieldTable.HeldLaws.{Holds}
-use Rattle.requests.proofs.OnFieldTable.AfterLaws.{after-declare, after-remove}
+use Rattle.requests.proofs.OnFieldTable.EntryLaws.{declaring-tells, key-back}
+use Rattle.requests.proofs.OnFieldTable.AfterLaws.{after-new, after-declare, after-remove}
 use Rattle.requests.proofs.OnLeagues.OwnLaws.{call-own, own-is-key, not-other, of-both, owned-counts}
 use Rattle.requests.proofs.OnLeagues.SharedLaws.{sensible2, Shared, shared-tells, holds, of-all}
 
@@ -189,6 +189,11 @@ module _ (s : List ℕ) (league field : ℕ) (xs : List (List ℕ)) (c : Changed
       let sh2 : length (own 2 xs) ≤ shareMost = rw z at sh in
       let m = h .first in
       record { found = f; owned = owned-counts xs ∙ eq-eqb (of-both xs) (length xs) (omega arith); first = omega arith; second = sh2 })
+
+-- an empty table is one that they share
+pub after-new-shared : (s : List ℕ) → headSize ≤ length s → Shared (newBuffer (table2 .version) s) []
+unfolding keep allOwned
+after-new-shared s h = record { found = after-new table2 sensible2 s h; owned = refl; first = omega arith; second = omega arith }
 
 -- "every operation that is not refused leaves a table that checks": the entries that it made
 module _ (s : List ℕ) (league field : ℕ) (xs : List (List ℕ)) where

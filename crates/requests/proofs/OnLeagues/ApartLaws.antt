@@ -2,25 +2,23 @@
 -- the league's own entries; and "the other league's entries are untouched". Assumes nothing.
 use mathlib.Core.Path.{_≡_, refl, sym, ap, _∙_}
 use mathlib.Core.Bool.{Bool, true, false, _&&_, _||_}
-use mathlib.Core.List.{List, [], _∷_}
-use Prim.Native.Nat.{ℕ, _+_, _*_, _≤_, _<_}
-use native.Mathlib.Omega.{arith}
+use mathlib.Core.List.{List}
+use Prim.Native.Nat.{ℕ, _+_, _*_, _≤_}
 use borrow.Author.Tests.{ltb-true}
 use lib.Dec.{ltb}
 use lib.IntN.{ℤ}
 use lib.ListN.{length}
 use Rattle.rules.specs.Refusals.{Answer, Gives, Refused, RefusedAt, _then_, demand}
-use Rattle.rules.specs.Kinds.{Kind}
 use Rattle.rules.specs.Book.{headSize, pick}
 use Rattle.rules.proofs.OnKinds.KindLaws.{left}
 use Rattle.rules.proofs.OnBook.FrameLaws.{demand-met}
 use Rattle.requests.specs.Entries.{some, standing, declare, remove}
-use Rattle.requests.specs.FieldTable.{badEntry, tableFull, notThere, keyIn, Declared, declaredBy, entryFor, hasRoom, declareIn, removeIn, tableBuffer, gameKind, Looked, lookBy}
+use Rattle.requests.specs.FieldTable.{badEntry, tableFull, notThere, keyIn, Declared, declaredBy, entryFor, declareIn, removeIn, tableBuffer, gameKind, Looked, lookBy}
 use Rattle.requests.specs.Leagues.{table2, isLeague, isField, keyFor, ownKey, own, shareMost, sharedEntries, ownOf, ownEntries, ownDeclared, ownEntryAt, called, declareOwn, ownDeclaration, ownDeclareBuffer, ownRemoval, ownRemoveBuffer, ownLookup}
 use Rattle.requests.proofs.OnEntries.KeepLaws.{either}
 use Rattle.requests.proofs.OnEntries.PartLaws.{declare-own, remove-own, found-within}
 use Rattle.requests.proofs.OnLeagues.OwnLaws.{call-own}
-use Rattle.requests.proofs.OnLeagues.SharedLaws.{Shared, shared-tells, tells-shared, room-for-own}
+use Rattle.requests.proofs.OnLeagues.SharedLaws.{Shared, tells-shared, room-for-own}
 use Rattle.requests.proofs.OnLeagues.AfterLaws.{entry-key, declared-changes, removed-changes, after-own-declare, after-own-remove}
 
 -- the room for all 2,048 entries

@@ -1,21 +1,20 @@
 -- A league's calls are those of #101 at a longer key: a lookup in a table that the leagues share, what a declaration and a removal change
 -- of a league's lookups, and what they leave of its own and the other's; and 15, for a new field alone. Assumes nothing.
 use mathlib.Core.Path.{_≡_, refl, sym, ap, _∙_}
-use mathlib.Core.Bool.{Bool, true, false, _&&_, _||_}
-use mathlib.Core.List.{List, [], _∷_}
+use mathlib.Core.Bool.{Bool, true, false, _&&_}
+use mathlib.Core.List.{List, []}
 use Prim.Native.Nat.{ℕ, suc, _+_, _*_, _≤_, _<_}
-use native.Mathlib.Omega.{arith}
 use borrow.Author.Tests.{le-ltb, lt-ltb, lt-leb}
 use lib.Dec.{ltb}
 use lib.IntN.{ℤ}
 use lib.ListN.{length}
-use Rattle.rules.specs.Refusals.{Answer, Gives, Refused, _then_, demand}
+use Rattle.rules.specs.Refusals.{Gives, Refused, _then_, demand}
 use Rattle.rules.specs.Book.{headSize}
 use Rattle.rules.proofs.OnKinds.KindLaws.{left}
 use Rattle.requests.specs.Entries.{some, standing, declare}
 use Rattle.requests.specs.FieldTable.{tableFull, keyIn, declaredKind, gameKind, entryFor, declareIn, declareBuffer, removeBuffer, decode, guess, gameFor, lookup}
 use Rattle.requests.specs.Leagues.{table2, isLeague, isField, keyFor, own, shareMost, declareOwn, ownDeclaration, ownDeclareBuffer, ownRemoval, ownRemoveBuffer, ownLookup}
-use Rattle.requests.proofs.OnFieldTable.LookupLaws.{looks-declared, looks-beside, looks-removed, looks-left}
+use Rattle.requests.proofs.OnFieldTable.LookupLaws.{looks-declared, looks-beside, looks-removed, looks-left, declared-removed}
 use Rattle.requests.proofs.OnLeagues.OwnLaws.{call-own, own-is-key}
 use Rattle.requests.proofs.OnLeagues.SharedLaws.{sensible2, Shared, tells-shared, room-for-own}
 use Rattle.requests.proofs.OnLeagues.AfterLaws.{entry-key, declared-so, as-declared, removed-so, as-removed, after-own-declare, after-own-remove}
@@ -81,6 +80,16 @@ module _ (s : List ℕ) (league field : ℕ) (xs : List (List ℕ)) (e : ownRemo
       ∙ ap (λ (b : List ℕ). lookup table2 b (keyFor other beside) game z) (sym r)
       ∙ looks-left table2 sensible2 s (keyFor league field) xs (as-removed s league field xs e) game z (keyFor other beside) ne
       ∙ sym (as-lookup other beside n game z s (t .rs) (t .has))
+
+-- ---- a new field, declared and removed again: the entries of both leagues are as they were
+
+pub own-declared-removed : (s : List ℕ) (league field code : ℕ) (was xs ys : List (List ℕ)) → Shared s was → standing (keyIn 3) (keyFor league field) was ≡ [] →
+    ownDeclaration s league field code ≡ Gives xs → ownRemoval (ownDeclareBuffer s league field code) league field ≡ Gives ys → ys ≡ was
+own-declared-removed s league field code was xs ys h none e f =
+    let q = keyFor league field in
+    let b : ownDeclareBuffer s league field code ≡ declareBuffer table2 s q code = rw (as-declared s league field code xs e, e) in
+    declared-removed table2 sensible2 s q code was xs ys (h .found) none (as-declared s league field code xs e)
+    (rw b at (as-removed (ownDeclareBuffer s league field code) league field ys f))
 
 -- ---- 15: for a new field, at a full share or in a short buffer
 

@@ -1,22 +1,22 @@
 -- A version 1 table that was moved: a table of league 1 alone, and "its lookups are those of the version 1 table". Assumes nothing.
 use mathlib.Core.Path.{_≡_, refl, sym, ap, _∙_}
-use mathlib.Core.Bool.{Bool, true, false, _&&_, _||_}
-use mathlib.Core.List.{List, [], _∷_, _++_, map}
-use Prim.Native.Nat.{ℕ, suc, _+_, _*_, _-_, _^_, _≤_, _<_}
+use mathlib.Core.Bool.{Bool, true, false, _&&_}
+use mathlib.Core.List.{List, [], _∷_, map}
+use Prim.Native.Nat.{ℕ, _+_, _*_, _≤_}
 use native.Mathlib.Omega.{arith}
 use borrow.Author.Tests.{leb-true, eq-eqb, ne-eqb, eqb-true, eqb-false}
 use lib.Dec.{leb, eqb, lit<}
 use lib.IntN.{ℤ}
-use lib.ListN.{length, drop, replicate, length-map}
-use Rattle.rules.specs.Words.{within, bigEndian}
-use Rattle.rules.specs.Refusals.{Answer, Gives, Refused, RefusedAt, _then_, demand, given}
+use lib.ListN.{length, length-map}
+use Rattle.rules.specs.Words.{bigEndian}
+use Rattle.rules.specs.Refusals.{Answer, Gives, Refused, RefusedAt, _then_, given}
 use Rattle.rules.specs.Kinds.{Kind}
 use Rattle.rules.specs.Book.{headSize}
 use Rattle.rules.proofs.OnKinds.KindLaws.{left, right, low, high, yes-within}
 use Rattle.rules.proofs.OnBook.FrameLaws.{Sensible, demand-met, then-met}
 use Rattle.requests.specs.Entries.{same, ascends, keep, standing}
-use Rattle.requests.specs.FieldTable.{tableFrame, table1, tableFull, keyIn, codeIn, isKey, declaredKind, gameKind, declaring, declaredBy, allDeclare, entries, tableBuffer, decode, guess, lookBy, gameFor, lookup}
-use Rattle.requests.specs.Leagues.{table2, isLeague, isField, keyFor, ownKey, own, allOwned, shareMost, sharedEntries, called, ownLookup, ofFirst, movedEntries, movedBuffer}
+use Rattle.requests.specs.FieldTable.{tableFrame, table1, tableFull, keyIn, codeIn, gameKind, declaredBy, allDeclare, entries, tableBuffer, decode, guess, lookBy, gameFor, lookup}
+use Rattle.requests.specs.Leagues.{table2, isField, keyFor, ownKey, own, allOwned, shareMost, called, ownLookup, ofFirst, movedEntries, movedBuffer}
 use Rattle.requests.proofs.OnEntries.EachLaws.{Each, each-kept}
 use Rattle.requests.proofs.OnEntries.KeepLaws.{either, keep-none}
 use Rattle.requests.proofs.OnEntries.OrderLaws.{first-rest, and-then, lower}

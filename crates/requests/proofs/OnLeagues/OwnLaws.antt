@@ -1,14 +1,13 @@
 -- The keys of a league: a call's key is its own, no key is of two leagues, and where every entry is a league's the two have them all.
 -- Assumes nothing.
-use mathlib.Core.Path.{_≡_, refl, sym, ap, _∙_}
-use mathlib.Core.Bool.{Bool, true, false, _&&_, _||_, and-false}
+use mathlib.Core.Path.{_≡_, refl, sym, _∙_}
+use mathlib.Core.Bool.{true, false, _&&_}
 use mathlib.Core.List.{List, [], _∷_}
-use Prim.Native.Nat.{ℕ, suc, _+_, _*_, _%_, _≤_, _<_}
+use Prim.Native.Nat.{ℕ, suc, _+_, _≤_}
 use native.Mathlib.Omega.{arith}
 use borrow.Author.Tests.{eqb-true, eqb-false, eq-eqb, ne-eqb, leb-true}
 use lib.Dec.{leb, eqb}
 use lib.ListN.{length}
-use Rattle.rules.specs.Words.{within}
 use Rattle.rules.proofs.OnKinds.KindLaws.{left, right, low, high, yes-within}
 use Rattle.requests.specs.Entries.{keep}
 use Rattle.requests.specs.FieldTable.{keyIn, isKey}

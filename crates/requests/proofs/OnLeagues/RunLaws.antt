@@ -2,9 +2,8 @@
 -- refusals too, and have the same entries of it then; and in any run of both leagues one league is answered what its own calls alone would
 -- be. Assumes nothing.
 use mathlib.Core.Path.{_≡_, refl, sym, ap, _∙_}
-use mathlib.Core.Bool.{Bool, true, false}
 use mathlib.Core.List.{List, [], _∷_, _++_}
-use Prim.Native.Nat.{ℕ, _+_, _*_, _≤_, _<_}
+use Prim.Native.Nat.{ℕ, _+_, _*_, _≤_}
 use native.Mathlib.Omega.{arith}
 use borrow.Author.Tests.{eqb-true, eqb-false}
 use lib.Dec.{eqb}
@@ -15,11 +14,10 @@ use Rattle.requests.specs.Entries.{standing}
 use Rattle.requests.specs.Laid.{laid}
 use Rattle.requests.specs.FieldTable.{tableFrame, keyIn, counted, tableBuffer}
 use Rattle.requests.specs.Leagues.{table2, keyFor, own, ownOf, ownDeclaration, ownDeclareBuffer, ownRemoval, ownRemoveBuffer}
-use Rattle.requests.specs.LeagueRuns.{Call, checks, shows, declares, removes, looksUp, Reply, counts, shown, looked, reply, after, Turn, afterAll, replies, ownTurns}
+use Rattle.requests.specs.LeagueRuns.{Call, checks, shows, declares, removes, looksUp, counts, shown, looked, reply, after, Turn, afterAll, replies, ownTurns}
 use Rattle.requests.proofs.OnEntries.KeepLaws.{either}
 use Rattle.requests.proofs.OnEntries.ChangeLaws.{remove-count}
 use Rattle.requests.proofs.OnLaid.LaidLaws.{laid-long}
-use Rattle.requests.proofs.OnFieldTable.HeldLaws.{Holds}
 use Rattle.requests.proofs.OnFieldTable.AfterLaws.{each-long}
 use Rattle.requests.proofs.OnLeagues.SharedLaws.{sensible2, Shared, holds}
 use Rattle.requests.proofs.OnLeagues.AfterLaws.{Changed, some-first, declared-changes, removed-so, removed-changes, after-own-declare, after-own-remove}

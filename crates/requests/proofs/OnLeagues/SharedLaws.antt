@@ -1,20 +1,19 @@
 -- What a table that two leagues share tells: its entries in order, each a league's, a share's at most of each; and each way in which its
 -- check answers. Assumes nothing.
-use mathlib.Core.Path.{_≡_, refl, sym, ap, _∙_}
+use mathlib.Core.Path.{_≡_, sym, ap, _∙_}
 use mathlib.Core.Bool.{Bool, true, false, _&&_}
 use mathlib.Core.List.{List}
 use Prim.Native.Nat.{ℕ, suc, _+_, _*_, _≤_, _<_}
 use native.Mathlib.Omega.{arith}
-use borrow.Author.Tests.{le-leb, leb-true, lt-ltb, ltb-true, eqb-true, eqb-false}
-use lib.Dec.{leb, ltb, eqb, lit<}
+use borrow.Author.Tests.{le-leb, leb-true, lt-ltb, eqb-true, eqb-false}
+use lib.Dec.{leb, eqb, lit<}
 use lib.ListN.{length, drop}
-use Rattle.rules.specs.Refusals.{Answer, Gives, Refused, RefusedAt, _then_, demand}
+use Rattle.rules.specs.Refusals.{Gives, Refused, _then_}
 use Rattle.rules.specs.Book.{headSize, pieces}
 use Rattle.rules.proofs.OnKinds.KindLaws.{left, right, low, high}
 use Rattle.rules.proofs.OnBook.FrameLaws.{Sensible, demand-met, then-met, same-refusal}
 use Rattle.rules.proofs.OnBook.PieceLaws.{piece-count}
-use Rattle.requests.specs.Entries.{ascends, keep}
-use Rattle.requests.specs.FieldTable.{tableFrame, badEntry, keyIn, entries, counted, check, hasRoom}
+use Rattle.requests.specs.FieldTable.{tableFrame, badEntry, entries, counted, check, hasRoom}
 use Rattle.requests.specs.Leagues.{table2, isLeague, own, allOwned, shareMost, withinShares, sharedEntries}
 use Rattle.requests.proofs.OnEntries.KeepLaws.{either}
 use Rattle.requests.proofs.OnFieldTable.HeldLaws.{Holds, sensible-table, found-holds, check-entries}

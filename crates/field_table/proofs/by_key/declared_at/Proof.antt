@@ -1,5 +1,5 @@
 -- `field_table::by_key::declared_at` meets its contract: the key of the entry, and the kind of its code. Assumes nothing.
-use mathlib.Core.Path.{_≡_, sym, ap, _∙_}
+use mathlib.Core.Path.{sym, ap, _∙_}
 use native.Mathlib.Omega.{arith}
 use denote.Ref.{now}
 use Rattle.field_table.specs.Views.{allowedAs}

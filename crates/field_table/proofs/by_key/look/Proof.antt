@@ -1,5 +1,5 @@
 -- `field_table::by_key::look` meets its contract: by where the key was found. Assumes nothing.
-use mathlib.Core.Path.{_≡_, sym, ap, _∙_}
+use mathlib.Core.Path.{sym, ap, _∙_}
 use mir.Facts.{toZ-ofZ}
 use native.Mathlib.Omega.{arith}
 use denote.Ref.{now}

@@ -1,5 +1,5 @@
 -- `league_table::own::after` meets its contract. Assumes nothing.
-use mathlib.Core.Path.{_≡_, sym, ap, subst}
+use mathlib.Core.Path.{sym, ap, subst}
 use native.Mathlib.Omega.{arith}
 use Rattle.field_table.specs.Views.{changedAs}
 use Rattle.league_table.specs.Told.{Countable, ownAfter}

@@ -1,9 +1,4 @@
 -- `league_table::own::start` meets its contract: the place of the league's first key. Assumes nothing.
-use mathlib.Core.Path.{_∙_, ap}
-use denote.Ref.{now}
-use Rattle.requests.specs.Entries.{place}
-use Rattle.requests.specs.FieldTable.{keyIn}
-use Rattle.field_table.specs.Search.{entriesIn}
 use borrow.Author.Needs.{needs}
 use Rattle.league_table.proofs.own.start.Statement.{statement}
 use Rattle.league_table.proofs.own.start.Tie as tie

@@ -1,5 +1,5 @@
 -- `league_table::own::without_league` meets its contract. Assumes nothing.
-use mathlib.Core.Path.{_≡_, sym, ap}
+use mathlib.Core.Path.{sym, ap}
 use Rattle.rules.specs.Refusals.{Gives, _then_}
 use Rattle.requests.specs.FieldTable.{Declared}
 use Rattle.requests.specs.Leagues.{ownDeclared}

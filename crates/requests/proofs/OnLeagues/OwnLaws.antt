@@ -1,13 +1,14 @@
 -- The keys of a league: a call's key is its own, no key is of two leagues, and where every entry is a league's the two have them all.
 -- Assumes nothing.
 use mathlib.Core.Path.{_≡_, refl, sym, _∙_}
-use mathlib.Core.Bool.{true, false, _&&_}
+use mathlib.Core.Bool.{Bool, true, false, _&&_, _||_, or-true}
 use mathlib.Core.List.{List, [], _∷_}
-use Prim.Native.Nat.{ℕ, suc, _+_, _≤_}
+use Prim.Native.Nat.{ℕ, suc, _+_, _*_, _≤_, _<_}
 use native.Mathlib.Omega.{arith}
 use borrow.Author.Tests.{eqb-true, eqb-false, eq-eqb, ne-eqb, leb-true}
 use lib.Dec.{leb, eqb}
 use lib.ListN.{length}
+use Rattle.rules.specs.Words.{bigEndian}
 use Rattle.rules.proofs.OnKinds.KindLaws.{left, right, low, high, yes-within}
 use Rattle.requests.specs.Entries.{keep}
 use Rattle.requests.specs.FieldTable.{keyIn, isKey}
@@ -43,6 +44,44 @@ own-field league key h =
     let b = low (keyFor league 1) (keyFor league 65535) key h in
     let c = high (keyFor league 1) (keyFor league 65535) key h in
     omega arith
+
+-- ---- the bytes of an entry: its key is that of its league and field, and a league's exactly where its league byte is 1 or 2 and its field
+-- is not 0
+
+module _ (league high′ low′ code : ℕ) (h : high′ < 256) (l : low′ < 256) where
+  abbrev field : ℕ
+  field = high′ * 256 + low′
+
+  pub bytes-key : keyIn 3 (league ∷ high′ ∷ low′ ∷ code ∷ []) ≡ keyFor league field
+  unfolding keyIn bigEndian
+  bytes-key = omega arith
+
+  -- an own key of a league that is 1 or 2 has that league byte and a field
+  named : (one : ℕ) → isLeague one ≡ true → ownKey one (keyFor league field) ≡ true → (isLeague league && isField field) ≡ true
+  named one g e =
+      let a = low (keyFor one 1) (keyFor one 65535) (keyFor league field) e in
+      let b = high (keyFor one 1) (keyFor one 65535) (keyFor league field) e in
+      let z : one ≡ league = omega arith in
+      let f : 1 ≤ field = omega arith in
+      rw (← z) (rw (g, yes-within 1 65535 field f (omega arith)))
+
+  pub league-byte : leagueKey (keyIn 3 (league ∷ high′ ∷ low′ ∷ code ∷ [])) ≡ (isLeague league && isField field)
+  league-byte = rw bytes-key (inner (isLeague league && isField field) refl)
+    where
+      no-own : (isLeague league && isField field) ≡ false → (one : ℕ) → isLeague one ≡ true → ownKey one (keyFor league field) ≡ false
+      no-own e one g = either (ownKey one (keyFor league field)) (λ t. t ∙ sym (named one g t) ∙ e) (λ t. t)
+
+      inner : (t : Bool) → (isLeague league && isField field) ≡ t → leagueKey (keyFor league field) ≡ t
+      inner true e =
+          let a = low 1 2 league (left (isLeague league) _ e) in
+          let b = high 1 2 league (left (isLeague league) _ e) in
+          let o = call-own league field e in
+          either (eqb league 1)
+          (λ f. let z = eqb-true league 1 f in rw (← z, o))
+          (λ f. let y = eqb-false league 1 f in let z : league ≡ 2 = omega arith in
+          let w : ownKey 2 (keyFor league field) ≡ true = rw (← z) o in
+          rw w (or-true (ownKey 1 (keyFor league field))))
+      inner false e = rw (no-own e 1 refl, no-own e 2 refl)
 
 -- ---- no key is of two leagues
 

@@ -1,6 +1,6 @@
 -- The keys of a league: a call's key is its own, no key is of two leagues, and where every entry is a league's the two have them all.
 -- Assumes nothing.
-use mathlib.Core.Path.{_≡_, refl, sym, _∙_}
+use mathlib.Core.Path.{_≡_, refl, sym, subst, _∙_}
 use mathlib.Core.Bool.{Bool, true, false, _&&_, _||_, or-true}
 use mathlib.Core.List.{List, [], _∷_}
 use Prim.Native.Nat.{ℕ, suc, _+_, _*_, _≤_, _<_}
@@ -77,10 +77,9 @@ module _ (league high′ low′ code : ℕ) (h : high′ < 256) (l : low′ < 25
           let b = high 1 2 league (left (isLeague league) _ e) in
           let o = call-own league field e in
           either (eqb league 1)
-          (λ f. let z = eqb-true league 1 f in rw (← z, o))
+          (λ f. rw (subst (λ g. ownKey g (keyFor league field) ≡ true) (eqb-true league 1 f) o))
           (λ f. let y = eqb-false league 1 f in let z : league ≡ 2 = omega arith in
-          let w : ownKey 2 (keyFor league field) ≡ true = rw (← z) o in
-          rw w (or-true (ownKey 1 (keyFor league field))))
+          rw (subst (λ g. ownKey g (keyFor league field) ≡ true) z o) (or-true (ownKey 1 (keyFor league field))))
       inner false e = rw (no-own e 1 refl, no-own e 2 refl)
 
 -- ---- no key is of two leagues

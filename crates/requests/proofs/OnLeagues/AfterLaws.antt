@@ -45,7 +45,7 @@ at-most true held mine h f g l = let m = f refl in omega arith
 at-most false held mine h f g l = let m = ltb-true held shareMost h in omega arith
 
 -- a league's share, whichever it is
-of-league : (rs : List (List ℕ)) (league : ℕ) → isLeague league ≡ true → length (own 1 rs) ≤ shareMost → length (own 2 rs) ≤ shareMost → length (own league rs) ≤ shareMost
+pub of-league : (rs : List (List ℕ)) (league : ℕ) → isLeague league ≡ true → length (own 1 rs) ≤ shareMost → length (own 2 rs) ≤ shareMost → length (own league rs) ≤ shareMost
 of-league rs league g p q =
     let a = low 1 2 league g in let b = high 1 2 league g in
     either (eqb league 1)

@@ -36,6 +36,9 @@ pub fn run(extent: Extent, report: &mut Report) {
     report.row(name, Covers::Sample, lengths(extent.pick(7, 1)));
     let name = "full shares: a bad entry, a new field and an old one at each place";
     report.row(name, extent.covers_all(), full_shares(extent.pick(32, 1)));
+    let name =
+        "shares at 1,023 to 1,026 of one league, beside none, one and all that fit of the other";
+    report.row(name, Covers::All, about_a_share());
     let name = "random tables of two leagues: steps, now and then a byte changed";
     let count = extent.pick(1_000_000, 30_000_000);
     report.row(name, Covers::Sample, random_steps(count));
@@ -223,6 +226,18 @@ fn full_shares(step: usize) -> Tally {
         }
         let counts = [own, SHARE - own];
         all_calls(tally, &table_of(&shares(counts), part as usize % 6));
+    })
+}
+
+/// "14 also for [..] a table with over 1,024 of one league", however many both have.
+fn about_a_share() -> Tally {
+    share(4, |part, tally| {
+        let own = SHARE - 1 + part as usize;
+        for other in [0, 1, 2 * SHARE - own - 1, 2 * SHARE - own] {
+            for counts in [[own, other], [other, own]] {
+                all_calls(tally, &table_of(&shares(counts), ENTRY));
+            }
+        }
     })
 }
 

@@ -1,31 +1,13 @@
 -- What is told of a table operation, and the buffer after it, by `requests`. Assumes nothing.
 use Prim.Native.Nat.{ℕ}
-use mathlib.Core.Bool.{true, false}
 use mathlib.Core.List.{List}
-use Rattle.rules.specs.Refusals.{Answer, Gives, Refused, _then_}
+use Rattle.rules.specs.Refusals.{Answer, Gives, _then_}
 use Rattle.rules.specs.Book.{newAnswer, newBuffer}
-use Rattle.requests.specs.FieldTable.{Declared, table1, check, entryAt, counted, declared, declareBuffer, removed, removeBuffer, lookup}
-use Rattle.kinds.specs.Views.{kindOf, bitsOf}
-use Rattle.field_table.specs.Views.{Bits, inBits}
+use Rattle.requests.specs.FieldTable.{table1, check, entryAt, counted, declared, declareBuffer, removed, removeBuffer, lookup}
+use Rattle.field_table.specs.Views.{inBits}
+use Rattle.script.specs.TableAnswers.{Value, Done, Number, Declares, Dated}
 use Rattle.book_run.specs.declared.tables.TableOperation.{TableOperation}
 use Rattle.book_run.specs.declared.tables.TableOperation.the-variants as O
-use Rattle.book_run.specs.declared.tables.TableTold.{TableTold}
-use Rattle.book_run.specs.declared.tables.TableTold.the-variants as T
-
--- what an operation gives: nothing to tell, a number of entries, an entry, or a date that was looked up
-pub data Value : Type 0 where
-  Done : Value
-  Number : ℕ → Value
-  Declares : Declared → Value
-  Dated : Bits → Value
-
-abbrev pub toldAs : TableTold → Answer Value
-toldAs T.Done = Gives Done
-toldAs (T.Number n) = Gives (Number n)
-toldAs (T.Entry field k) = Gives (Declares (record { key = field; kind = kindOf k }))
-toldAs (T.Declared k d) = Gives (Dated (record { kind = kindOf k; date = bitsOf d; guessed = false }))
-toldAs (T.Guessed k d) = Gives (Dated (record { kind = kindOf k; date = bitsOf d; guessed = true }))
-toldAs (T.Refused n) = Refused n
 
 abbrev pub answerOf : TableOperation → List ℕ → Answer Value
 answerOf O.New s = newAnswer s then λ n. Gives Done

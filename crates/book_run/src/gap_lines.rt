@@ -1,6 +1,6 @@
 // The lines of a script that are about the gap report, read as those of `lines` are.
-use crate::lines;
 use crate::lines::Line;
+use script::naturals;
 
 // What is asked for, and how much is lent for it: bytes for the report, numbers for its figures. `gaps` tells a line that lends more
 // than there is as unread.
@@ -11,13 +11,13 @@ pub(crate) enum GapLine {
 
 pub(crate) fn report(row: &[u8], at: usize) -> Line {
     let room = rows::natural(row, rows::after_word(row, at, b"report "));
-    let n = lines::place_of(room.up);
+    let n = naturals::place_of(room.up);
     lending(row, room.next, GapLine::Report(n))
 }
 
 pub(crate) fn figures(row: &[u8], at: usize) -> Line {
     let numbers = rows::natural(row, rows::after_word(row, at, b"figures "));
-    let n = lines::place_of(numbers.up);
+    let n = naturals::place_of(numbers.up);
     lending(row, numbers.next, GapLine::Figures(n))
 }
 

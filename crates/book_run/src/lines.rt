@@ -9,6 +9,7 @@ use crate::versions::VersionOperation;
 use codes::Lettered;
 use kinds::Kind;
 use kinds::Packed;
+use script::naturals;
 
 pub(crate) enum Line {
     Remark,
@@ -90,38 +91,28 @@ fn table_or_to(row: &[u8]) -> Line {
     table_lines::read(row)
 }
 
-// ---- a place is a number of 64 bits
-
-pub(crate) fn place_of(n: u64) -> usize {
-    n as usize
-}
-
 // ---- what prepares the buffer
 
 fn buffer(row: &[u8]) -> Line {
     let length = rows::natural(row, rows::after_word(row, 0, b"buffer "));
-    let byte = rows::natural(row, rows::after(row, length.next, b' '));
+    let byte = naturals::byte8(row, rows::after(row, length.next, b' '));
     if rows::ends(row, byte.next) {
-        if byte.up <= 255 {
-            return Line::Buffer {
-                length: place_of(length.up),
-                byte: byte.up as u8,
-            };
-        }
+        return Line::Buffer {
+            length: naturals::place_of(length.up),
+            byte: byte.value,
+        };
     }
     Line::Unread
 }
 
 fn set(row: &[u8]) -> Line {
     let place = rows::natural(row, rows::after_word(row, 0, b"set "));
-    let byte = rows::natural(row, rows::after(row, place.next, b' '));
+    let byte = naturals::byte8(row, rows::after(row, place.next, b' '));
     if rows::ends(row, byte.next) {
-        if byte.up <= 255 {
-            return Line::Set {
-                place: place_of(place.up),
-                byte: byte.up as u8,
-            };
-        }
+        return Line::Set {
+            place: naturals::place_of(place.up),
+            byte: byte.value,
+        };
     }
     Line::Unread
 }
@@ -132,9 +123,9 @@ fn copy(row: &[u8]) -> Line {
     let to = rows::natural(row, rows::after(row, count.next, b' '));
     if rows::ends(row, to.next) {
         return Line::Copy {
-            from: place_of(from.up),
-            count: place_of(count.up),
-            to: place_of(to.up),
+            from: naturals::place_of(from.up),
+            count: naturals::place_of(count.up),
+            to: naturals::place_of(to.up),
         };
     }
     Line::Unread
@@ -144,16 +135,14 @@ fn entries(row: &[u8]) -> Line {
     let place = rows::natural(row, rows::after_word(row, 0, b"entries "));
     let first = rows::natural(row, rows::after(row, place.next, b' '));
     let count = rows::natural(row, rows::after(row, first.next, b' '));
-    let code = rows::natural(row, rows::after(row, count.next, b' '));
+    let code = naturals::byte8(row, rows::after(row, count.next, b' '));
     if rows::ends(row, code.next) {
-        if code.up <= 255 {
-            return Line::Entries {
-                place: place_of(place.up),
-                first: place_of(first.up),
-                count: place_of(count.up),
-                code: code.up as u8,
-            };
-        }
+        return Line::Entries {
+            place: naturals::place_of(place.up),
+            first: naturals::place_of(first.up),
+            count: naturals::place_of(count.up),
+            code: code.value,
+        };
     }
     Line::Unread
 }
@@ -177,7 +166,7 @@ fn check(row: &[u8]) -> Line {
 fn record(row: &[u8]) -> Line {
     let place = rows::natural(row, rows::after_word(row, 0, b"record "));
     if rows::ends(row, place.next) {
-        let at = place_of(place.up);
+        let at = naturals::place_of(place.up);
         return Line::Operation(Operation::Record(at));
     }
     Line::Unread

@@ -6,6 +6,7 @@ ghost use lib.ListN.{length};
 use crate::lines::Line;
 use book_versions::any;
 use libc::STDIN_FILENO;
+use script::preparing;
 
 mod gap_lines;
 mod gaps;
@@ -55,14 +56,14 @@ fn step(row: &[u8], room: &mut [u8], spare: &mut [u8], size: usize) -> usize
         }
         Line::Buffer { length, byte } => {
             if length <= room.len() {
-                setting::fill(&mut room[..length], byte);
+                preparing::fill(&mut room[..length], byte);
                 return length;
             }
             telling::unread(row);
             size
         }
         Line::Set { place, byte } => {
-            let done = setting::set(&mut room[..size], place, byte);
+            let done = preparing::set_byte(&mut room[..size], place, byte);
             telling::unread_unless(row, done);
             size
         }
@@ -77,7 +78,7 @@ fn step(row: &[u8], room: &mut [u8], spare: &mut [u8], size: usize) -> usize
             count,
             code,
         } => {
-            let done = setting::entries(&mut room[..size], place, first, count, code);
+            let done = preparing::entries(&mut room[..size], place, first, count, code);
             telling::unread_unless(row, done);
             size
         }
@@ -151,13 +152,13 @@ fn moved(
     requires { ⌜ (size ≤ length (now room)) × (length (now target) ≤ length (now room)) ⌝ }
     ensures { λ r. ⌜ r ≤ length (now (room .entry)) ⌝ }
 {
-    setting::fill(target, byte);
+    preparing::fill(target, byte);
     let told = versions::move_book(&room[..size], target, upward);
     let done = operations::is_number(told);
     telling::tell(row, told, target);
     if done {
         let length = target.len();
-        setting::put(&mut room[..length], target);
+        preparing::put(&mut room[..length], target);
         return length;
     }
     size

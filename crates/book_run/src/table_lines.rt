@@ -1,13 +1,7 @@
 // The lines of a script that are about tables, read as those of `lines` are.
-use crate::lines;
 use crate::lines::Line;
 use crate::tables::TableOperation;
-
-// A number of 32 bits without a sign, and the place after it.
-struct Word {
-    value: u32,
-    next: usize,
-}
+use script::naturals;
 
 pub(crate) fn read(row: &[u8]) -> Line {
     let at = rows::after_word(row, 0, b"table ");
@@ -19,22 +13,6 @@ pub(crate) fn read(row: &[u8]) -> Line {
         b'r' => remove(row, at),
         b'l' => lookup(row, at),
         _ => Line::Unread,
-    }
-}
-
-fn word32(row: &[u8], at: usize) -> Word {
-    let n = rows::natural(row, at);
-    let up = n.up;
-    let next = n.next;
-    if up <= 4294967295 {
-        return Word {
-            value: up as u32,
-            next,
-        };
-    }
-    Word {
-        value: 0,
-        next: rows::NOWHERE,
     }
 }
 
@@ -55,15 +33,15 @@ fn check(row: &[u8], at: usize) -> Line {
 fn entry(row: &[u8], at: usize) -> Line {
     let place = rows::natural(row, rows::after_word(row, at, b"entry "));
     if rows::ends(row, place.next) {
-        let at = lines::place_of(place.up);
+        let at = naturals::place_of(place.up);
         return Line::Table(TableOperation::Entry(at));
     }
     Line::Unread
 }
 
 fn declare(row: &[u8], at: usize) -> Line {
-    let field = word32(row, rows::after_word(row, at, b"declare "));
-    let code = word32(row, rows::after(row, field.next, b' '));
+    let field = naturals::word32(row, rows::after_word(row, at, b"declare "));
+    let code = naturals::word32(row, rows::after(row, field.next, b' '));
     if rows::ends(row, code.next) {
         return Line::Table(TableOperation::Declare {
             field: field.value,
@@ -74,7 +52,7 @@ fn declare(row: &[u8], at: usize) -> Line {
 }
 
 fn remove(row: &[u8], at: usize) -> Line {
-    let field = word32(row, rows::after_word(row, at, b"remove "));
+    let field = naturals::word32(row, rows::after_word(row, at, b"remove "));
     if rows::ends(row, field.next) {
         return Line::Table(TableOperation::Remove(field.value));
     }
@@ -82,8 +60,8 @@ fn remove(row: &[u8], at: usize) -> Line {
 }
 
 fn lookup(row: &[u8], at: usize) -> Line {
-    let field = word32(row, rows::after_word(row, at, b"lookup "));
-    let game = word32(row, rows::after(row, field.next, b' '));
+    let field = naturals::word32(row, rows::after_word(row, at, b"lookup "));
+    let game = naturals::word32(row, rows::after(row, field.next, b' '));
     let number = rows::whole32(row, rows::after(row, game.next, b' '));
     if rows::ends(row, number.next) {
         return Line::Table(TableOperation::Lookup {

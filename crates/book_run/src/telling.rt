@@ -1,10 +1,11 @@
-// What is told of the lines of a script. These functions write, which no contract can say; `weighed` is the sum that stands for a long buffer.
-ghost use Prim.Native.Nat.{_<_, _≤_};
+// What is told of the lines of a script. These functions write, which no contract can say.
+ghost use Prim.Native.Nat.{_≤_};
 use crate::operations::Told;
-use crate::tables::TableTold;
 use kinds::Kind;
 use kinds::Packed;
 use libc::STDOUT_FILENO;
+use script::table_answers;
+use script::weighing;
 use sign::Halves;
 
 // The longest buffer that is shown byte for byte.
@@ -97,7 +98,7 @@ fn listed(numbers: &[u32]) {
     }
 }
 
-pub(crate) fn tell_table(row: &[u8], told: TableTold, buffer: &[u8]) {
+pub(crate) fn tell_table(row: &[u8], told: table_answers::Told, buffer: &[u8]) {
     line(row);
     print(b" = ");
     table_answer(told);
@@ -129,20 +130,20 @@ fn answer(told: Told, with_field: bool) {
     }
 }
 
-fn table_answer(told: TableTold) {
+fn table_answer(told: table_answers::Told) {
     match told {
-        TableTold::Done => print(b"done"),
-        TableTold::Number(n) => number(counted(n)),
-        TableTold::Entry { field, kind } => entry(field, kind),
-        TableTold::Declared { kind, date } => {
+        table_answers::Told::Done => print(b"done"),
+        table_answers::Told::Number(n) => number(counted(n)),
+        table_answers::Told::Entry { field, kind } => entry(field, kind),
+        table_answers::Told::Declared { kind, date } => {
             print(b"declared ");
             record(kind, date)
         }
-        TableTold::Guessed { kind, date } => {
+        table_answers::Told::Guessed { kind, date } => {
             print(b"guessed ");
             record(kind, date)
         }
-        TableTold::Refused(n) => refused(n),
+        table_answers::Told::Refused(n) => refused(n),
     }
 }
 
@@ -204,7 +205,7 @@ fn show(buffer: &[u8]) {
     } else {
         number(counted(buffer.len()));
         print(b" bytes, sum ");
-        number(weighed(buffer));
+        number(weighing::weighed(buffer));
     }
 }
 
@@ -214,21 +215,4 @@ fn hexadecimal(buffer: &[u8]) {
         io::print_hex(STDOUT_FILENO, wide(buffer[i]), 2);
         i += 1;
     }
-}
-
-// The sum of each byte times one more than its place, modulo 2^32.
-fn weighed(buffer: &[u8]) -> u64 {
-    let mut sum = 0;
-    let mut i = 0;
-    while i < buffer.len() {
-        sum = (sum + weight(buffer[i], i)) % 4294967296;
-        i += 1;
-    }
-    sum
-}
-
-fn weight(byte: u8, i: usize) -> u64
-    ensures { λ r. ⌜ r < 4294967296 ⌝ }
-{
-    (i as u64 % 4294967296 + 1) * wide(byte) % 4294967296
 }

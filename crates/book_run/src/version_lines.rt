@@ -6,6 +6,7 @@ use crate::lines::Line;
 use crate::versions::VersionOperation;
 use codes::Lettered;
 use kinds::Kind;
+use script::naturals;
 
 // ---- version 2
 
@@ -38,7 +39,7 @@ fn plain(row: &[u8], end: usize, operation: VersionOperation) -> Line {
 
 fn record(row: &[u8], at: usize) -> Line {
     let place = rows::natural(row, rows::after_word(row, at, b"record "));
-    let n = lines::place_of(place.up);
+    let n = naturals::place_of(place.up);
     plain(row, place.next, VersionOperation::Record(n))
 }
 
@@ -94,7 +95,7 @@ fn record_or_report(row: &[u8], at: usize) -> Line {
     }
     let single = rows::natural(row, rows::after_word(row, at, b"record "));
     if rows::ends(row, single.next) {
-        let n = lines::place_of(single.up);
+        let n = naturals::place_of(single.up);
         return Line::Version(VersionOperation::AnyRecord(n));
     }
     walk(row, at)
@@ -106,8 +107,8 @@ fn walk(row: &[u8], at: usize) -> Line {
     if rows::ends(row, numbers.next) {
         if numbers.up <= 64 {
             return Line::Walk {
-                place: lines::place_of(place.up),
-                numbers: lines::place_of(numbers.up),
+                place: naturals::place_of(place.up),
+                numbers: naturals::place_of(numbers.up),
             };
         }
     }
@@ -119,13 +120,10 @@ fn walk(row: &[u8], at: usize) -> Line {
 pub(crate) fn to(row: &[u8]) -> Line {
     let version = rows::natural(row, rows::after_word(row, 0, b"to "));
     let room = rows::natural(row, rows::after(row, version.next, b' '));
-    let byte = rows::natural(row, rows::after(row, room.next, b' '));
+    let byte = naturals::byte8(row, rows::after(row, room.next, b' '));
     if rows::ends(row, byte.next) {
-        if byte.up <= 255 {
-            let filled = byte.up as u8;
-            let length = lines::place_of(room.up);
-            return move_to(version.up, length, filled);
-        }
+        let length = naturals::place_of(room.up);
+        return move_to(version.up, length, byte.value);
     }
     Line::Unread
 }

@@ -1,32 +1,14 @@
 -- What is told of an operation on a table of two leagues, or of version 1, and the buffer after it, by `requests`. Assumes nothing.
 use Prim.Native.Nat.{ℕ}
-use mathlib.Core.Bool.{true, false}
 use mathlib.Core.List.{List}
-use Rattle.rules.specs.Refusals.{Answer, Gives, Refused, _then_}
+use Rattle.rules.specs.Refusals.{Answer, Gives, _then_}
 use Rattle.rules.specs.Book.{newAnswer, newBuffer}
-use Rattle.requests.specs.FieldTable.{Declared, table1, check, counted, lookup}
+use Rattle.requests.specs.FieldTable.{table1, check, counted, lookup}
 use Rattle.requests.specs.Leagues.{table2, ownOf, ownEntries, ownEntryAt, ownDeclaration, ownDeclareBuffer, ownRemoval, ownRemoveBuffer, ownLookup}
-use Rattle.kinds.specs.Views.{kindOf, bitsOf}
-use Rattle.field_table.specs.Views.{Bits, inBits}
+use Rattle.field_table.specs.Views.{inBits}
+use Rattle.script.specs.TableAnswers.{Value, Done, Number, Declares, Dated}
 use Rattle.league_run.specs.declared.operations.Operation.{Operation}
 use Rattle.league_run.specs.declared.operations.Operation.the-variants as O
-use Rattle.league_run.specs.declared.operations.Told.{Told}
-use Rattle.league_run.specs.declared.operations.Told.the-variants as T
-
--- what an operation gives: nothing to tell, a number of entries, an entry, or a date that was looked up
-pub data Value : Type 0 where
-  Done : Value
-  Number : ℕ → Value
-  Declares : Declared → Value
-  Dated : Bits → Value
-
-abbrev pub toldAs : Told → Answer Value
-toldAs T.Done = Gives Done
-toldAs (T.Number n) = Gives (Number n)
-toldAs (T.Entry field k) = Gives (Declares (record { key = field; kind = kindOf k }))
-toldAs (T.Declared k d) = Gives (Dated (record { kind = kindOf k; date = bitsOf d; guessed = false }))
-toldAs (T.Guessed k d) = Gives (Dated (record { kind = kindOf k; date = bitsOf d; guessed = true }))
-toldAs (T.Refused n) = Refused n
 
 abbrev pub answerOf : Operation → List ℕ → Answer Value
 answerOf O.New s = newAnswer s then λ n. Gives Done

@@ -2,6 +2,7 @@
 // that a line is read to its end, and tested once.
 use crate::operations::Operation;
 use crate::setting::Setting;
+use script::naturals;
 
 pub(crate) enum Line {
     Remark,
@@ -11,18 +12,6 @@ pub(crate) enum Line {
     Operation(Operation),
     Move { length: usize, byte: u8 },
     Unread,
-}
-
-// A number of 32 bits without a sign, and the place after it.
-struct Word {
-    value: u32,
-    next: usize,
-}
-
-// A number of 8 bits, and the place after it.
-struct Byte {
-    value: u8,
-    next: usize,
 }
 
 pub(crate) fn read(row: &[u8]) -> Line {
@@ -72,53 +61,14 @@ fn old(row: &[u8]) -> Line {
     old_lookup(row, at)
 }
 
-// ---- numbers
-
-// A place is a number of 64 bits.
-fn place_of(n: u64) -> usize {
-    n as usize
-}
-
-fn word32(row: &[u8], at: usize) -> Word {
-    let n = rows::natural(row, at);
-    let up = n.up;
-    let next = n.next;
-    if up <= 4294967295 {
-        return Word {
-            value: up as u32,
-            next,
-        };
-    }
-    Word {
-        value: 0,
-        next: rows::NOWHERE,
-    }
-}
-
-fn byte8(row: &[u8], at: usize) -> Byte {
-    let n = rows::natural(row, at);
-    let up = n.up;
-    let next = n.next;
-    if up <= 255 {
-        return Byte {
-            value: up as u8,
-            next,
-        };
-    }
-    Byte {
-        value: 0,
-        next: rows::NOWHERE,
-    }
-}
-
 // ---- what prepares the buffer
 
 fn buffer(row: &[u8]) -> Line {
     let length = rows::natural(row, rows::after_word(row, 0, b"buffer "));
-    let byte = byte8(row, rows::after(row, length.next, b' '));
+    let byte = naturals::byte8(row, rows::after(row, length.next, b' '));
     if rows::ends(row, byte.next) {
         return Line::Buffer {
-            length: place_of(length.up),
+            length: naturals::place_of(length.up),
             byte: byte.value,
         };
     }
@@ -127,10 +77,10 @@ fn buffer(row: &[u8]) -> Line {
 
 fn set(row: &[u8]) -> Line {
     let place = rows::natural(row, rows::after_word(row, 0, b"set "));
-    let byte = byte8(row, rows::after(row, place.next, b' '));
+    let byte = naturals::byte8(row, rows::after(row, place.next, b' '));
     if rows::ends(row, byte.next) {
         return Line::Setting(Setting::Byte {
-            place: place_of(place.up),
+            place: naturals::place_of(place.up),
             byte: byte.value,
         });
     }
@@ -141,12 +91,12 @@ fn entries(row: &[u8]) -> Line {
     let place = rows::natural(row, rows::after_word(row, 0, b"entries "));
     let first = rows::natural(row, rows::after(row, place.next, b' '));
     let count = rows::natural(row, rows::after(row, first.next, b' '));
-    let code = byte8(row, rows::after(row, count.next, b' '));
+    let code = naturals::byte8(row, rows::after(row, count.next, b' '));
     if rows::ends(row, code.next) {
         return Line::Setting(Setting::Entries {
-            place: place_of(place.up),
-            first: place_of(first.up),
-            count: place_of(count.up),
+            place: naturals::place_of(place.up),
+            first: naturals::place_of(first.up),
+            count: naturals::place_of(count.up),
             code: code.value,
         });
     }
@@ -155,16 +105,16 @@ fn entries(row: &[u8]) -> Line {
 
 fn shares(row: &[u8]) -> Line {
     let place = rows::natural(row, rows::after_word(row, 0, b"shares "));
-    let league = byte8(row, rows::after(row, place.next, b' '));
+    let league = naturals::byte8(row, rows::after(row, place.next, b' '));
     let first = rows::natural(row, rows::after(row, league.next, b' '));
     let count = rows::natural(row, rows::after(row, first.next, b' '));
-    let code = byte8(row, rows::after(row, count.next, b' '));
+    let code = naturals::byte8(row, rows::after(row, count.next, b' '));
     if rows::ends(row, code.next) {
         return Line::Setting(Setting::Shares {
-            place: place_of(place.up),
+            place: naturals::place_of(place.up),
             league: league.value,
-            first: place_of(first.up),
-            count: place_of(count.up),
+            first: naturals::place_of(first.up),
+            count: naturals::place_of(count.up),
             code: code.value,
         });
     }
@@ -189,24 +139,24 @@ fn plain(row: &[u8], end: usize, operation: Operation) -> Line {
 }
 
 fn check(row: &[u8]) -> Line {
-    let league = word32(row, rows::after_word(row, 0, b"check "));
+    let league = naturals::word32(row, rows::after_word(row, 0, b"check "));
     plain(row, league.next, Operation::Check(league.value))
 }
 
 fn entry(row: &[u8]) -> Line {
-    let league = word32(row, rows::after_word(row, 0, b"entry "));
+    let league = naturals::word32(row, rows::after_word(row, 0, b"entry "));
     let place = rows::natural(row, rows::after(row, league.next, b' '));
     let asked = Operation::Entry {
         league: league.value,
-        place: place_of(place.up),
+        place: naturals::place_of(place.up),
     };
     plain(row, place.next, asked)
 }
 
 fn declare(row: &[u8]) -> Line {
-    let league = word32(row, rows::after_word(row, 0, b"declare "));
-    let field = word32(row, rows::after(row, league.next, b' '));
-    let code = word32(row, rows::after(row, field.next, b' '));
+    let league = naturals::word32(row, rows::after_word(row, 0, b"declare "));
+    let field = naturals::word32(row, rows::after(row, league.next, b' '));
+    let code = naturals::word32(row, rows::after(row, field.next, b' '));
     let asked = Operation::Declare {
         league: league.value,
         field: field.value,
@@ -216,8 +166,8 @@ fn declare(row: &[u8]) -> Line {
 }
 
 fn remove(row: &[u8]) -> Line {
-    let league = word32(row, rows::after_word(row, 0, b"remove "));
-    let field = word32(row, rows::after(row, league.next, b' '));
+    let league = naturals::word32(row, rows::after_word(row, 0, b"remove "));
+    let field = naturals::word32(row, rows::after(row, league.next, b' '));
     let asked = Operation::Remove {
         league: league.value,
         field: field.value,
@@ -226,9 +176,9 @@ fn remove(row: &[u8]) -> Line {
 }
 
 fn lookup(row: &[u8]) -> Line {
-    let league = word32(row, rows::after_word(row, 0, b"lookup "));
-    let field = word32(row, rows::after(row, league.next, b' '));
-    let game = word32(row, rows::after(row, field.next, b' '));
+    let league = naturals::word32(row, rows::after_word(row, 0, b"lookup "));
+    let field = naturals::word32(row, rows::after(row, league.next, b' '));
+    let game = naturals::word32(row, rows::after(row, field.next, b' '));
     let number = rows::whole32(row, rows::after(row, game.next, b' '));
     let asked = Operation::Lookup {
         league: league.value,
@@ -240,8 +190,8 @@ fn lookup(row: &[u8]) -> Line {
 }
 
 fn old_lookup(row: &[u8], at: usize) -> Line {
-    let field = word32(row, rows::after_word(row, at, b"lookup "));
-    let game = word32(row, rows::after(row, field.next, b' '));
+    let field = naturals::word32(row, rows::after_word(row, at, b"lookup "));
+    let game = naturals::word32(row, rows::after(row, field.next, b' '));
     let number = rows::whole32(row, rows::after(row, game.next, b' '));
     let asked = Operation::OldLookup {
         field: field.value,
@@ -253,10 +203,10 @@ fn old_lookup(row: &[u8], at: usize) -> Line {
 
 fn from_table(row: &[u8]) -> Line {
     let length = rows::natural(row, rows::after_word(row, 0, b"from "));
-    let byte = byte8(row, rows::after(row, length.next, b' '));
+    let byte = naturals::byte8(row, rows::after(row, length.next, b' '));
     if rows::ends(row, byte.next) {
         return Line::Move {
-            length: place_of(length.up),
+            length: naturals::place_of(length.up),
             byte: byte.value,
         };
     }

@@ -5,6 +5,8 @@ ghost use Prim.Native.Nat.{_≤_};
 ghost use lib.ListN.{length};
 use crate::lines::Line;
 use libc::STDIN_FILENO;
+use script::preparing;
+use script::table_answers;
 
 mod lines;
 mod operations;
@@ -48,7 +50,7 @@ fn step(row: &[u8], room: &mut [u8], spare: &mut [u8], size: usize) -> usize
         }
         Line::Buffer { length, byte } => {
             if length <= room.len() {
-                setting::fill(&mut room[..length], byte);
+                preparing::fill(&mut room[..length], byte);
                 return length;
             }
             telling::unread(row);
@@ -94,13 +96,13 @@ fn moved(row: &[u8], room: &mut [u8], size: usize, target: &mut [u8], byte: u8) 
     requires { ⌜ (size ≤ length (now room)) × (length (now target) ≤ length (now room)) ⌝ }
     ensures { λ r. ⌜ r ≤ length (now (room .entry)) ⌝ }
 {
-    setting::fill(target, byte);
+    preparing::fill(target, byte);
     let told = operations::move_table(&room[..size], target);
-    let done = operations::is_number(told);
+    let done = table_answers::is_number(told);
     telling::tell(row, told, target);
     if done {
         let length = target.len();
-        setting::put(&mut room[..length], target);
+        preparing::put(&mut room[..length], target);
         return length;
     }
     size

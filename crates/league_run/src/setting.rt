@@ -1,4 +1,6 @@
-// What a script does to its buffer outside the operations. What can miss the buffer says whether it was done.
+// What a script does to its buffer outside the operations, beside what `script::preparing` has. What can miss the buffer says whether it
+// was done.
+use script::preparing;
 
 // One byte; or the entries of so many fields from the first on, all of one code, from a place on: of version 1 in three bytes each, of
 // version 2 in four, with the league before the field.
@@ -24,13 +26,13 @@ pub(crate) enum Setting {
 
 pub(crate) fn set(buffer: &mut [u8], setting: Setting) -> bool {
     match setting {
-        Setting::Byte { place, byte } => set_byte(buffer, place, byte),
+        Setting::Byte { place, byte } => preparing::set_byte(buffer, place, byte),
         Setting::Entries {
             place,
             first,
             count,
             code,
-        } => entries(buffer, place, first, count, code),
+        } => preparing::entries(buffer, place, first, count, code),
         Setting::Shares {
             place,
             league,
@@ -39,23 +41,6 @@ pub(crate) fn set(buffer: &mut [u8], setting: Setting) -> bool {
             code,
         } => shares(buffer, place, league, first, count, code),
     }
-}
-
-pub(crate) fn fill(buffer: &mut [u8], byte: u8) {
-    let mut i = 0;
-    while i < buffer.len() {
-        buffer[i] = byte;
-        i += 1;
-    }
-}
-
-// The target of a move, as the buffer.
-pub(crate) fn put(buffer: &mut [u8], target: &[u8]) -> bool {
-    if buffer.len() == target.len() {
-        bytes::copy(target, buffer);
-        return true;
-    }
-    false
 }
 
 // The buffer in use and the other one, as long as it.
@@ -69,39 +54,6 @@ pub(crate) fn swap(here: &mut [u8], there: &mut [u8]) -> bool {
         let other = there[i];
         here[i] = other;
         there[i] = byte;
-        i += 1;
-    }
-    true
-}
-
-fn set_byte(buffer: &mut [u8], place: usize, byte: u8) -> bool {
-    if place < buffer.len() {
-        buffer[place] = byte;
-        return true;
-    }
-    false
-}
-
-fn entries(buffer: &mut [u8], place: usize, first: usize, count: usize, code: u8) -> bool {
-    if 65536 < count {
-        return false;
-    }
-    if 65536 - count < first {
-        return false;
-    }
-    if buffer.len() < 3 * count {
-        return false;
-    }
-    if buffer.len() - 3 * count < place {
-        return false;
-    }
-    let mut i = 0;
-    while i < count {
-        let field = first + i;
-        let at = place + 3 * i;
-        buffer[at] = (field / 256) as u8;
-        buffer[at + 1] = (field % 256) as u8;
-        buffer[at + 2] = code;
         i += 1;
     }
     true

@@ -1,9 +1,10 @@
-// What is told of the lines of a script. These functions write, which no contract can say; `weighed` is the sum that stands for a long buffer.
-ghost use Prim.Native.Nat.{_<_, _≤_};
-use crate::operations::Told;
+// What is told of the lines of a script. These functions write, which no contract can say.
+ghost use Prim.Native.Nat.{_≤_};
 use kinds::Kind;
 use kinds::Packed;
 use libc::STDOUT_FILENO;
+use script::table_answers::Told;
+use script::weighing;
 use sign::Halves;
 
 // The longest buffer that is shown byte for byte.
@@ -119,7 +120,7 @@ fn show(buffer: &[u8]) {
     } else {
         number(counted(buffer.len()));
         print(b" bytes, sum ");
-        number(weighed(buffer));
+        number(weighing::weighed(buffer));
     }
 }
 
@@ -129,21 +130,4 @@ fn hexadecimal(buffer: &[u8]) {
         io::print_hex(STDOUT_FILENO, wide(buffer[i]), 2);
         i += 1;
     }
-}
-
-// The sum of each byte times one more than its place, modulo 2^32.
-fn weighed(buffer: &[u8]) -> u64 {
-    let mut sum = 0;
-    let mut i = 0;
-    while i < buffer.len() {
-        sum = (sum + weight(buffer[i], i)) % 4294967296;
-        i += 1;
-    }
-    sum
-}
-
-fn weight(byte: u8, i: usize) -> u64
-    ensures { λ r. ⌜ r < 4294967296 ⌝ }
-{
-    (i as u64 % 4294967296 + 1) * wide(byte) % 4294967296
 }

@@ -8,8 +8,8 @@ use Rattle.book_run.proofs.step.Tie as tie
 slice-aggregate-fill : tie.Need-slice-aggregate-fill
 slice-aggregate-fill c = simp length-take (omega arith)
 
-slice-aggregate-set : tie.Need-slice-aggregate-set
-slice-aggregate-set c = simp length-take (omega arith)
+slice-aggregate-set-byte : tie.Need-slice-aggregate-set-byte
+slice-aggregate-set-byte c = simp length-take (omega arith)
 
 slice-aggregate-copy : tie.Need-slice-aggregate-copy
 slice-aggregate-copy c = simp length-take (omega arith)
@@ -63,7 +63,7 @@ step-spec =
     (λ c κs. search needs)
     (λ c. search needs)
     (λ c. search needs)
-    slice-aggregate-set
+    slice-aggregate-set-byte
     (λ c κs. search needs)
     (λ c κs. search needs)
     (λ c. search needs)

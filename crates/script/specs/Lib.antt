@@ -1,0 +1,4 @@
+pub mod Naturals
+pub mod Preparing
+pub mod TableAnswers
+pub mod Weighing

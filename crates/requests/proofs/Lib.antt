@@ -10,4 +10,5 @@ pub mod OnMoves
 pub mod OnLeagues
 pub mod OnGaps
 pub mod OnGapReport
+pub mod OnListingRoom
 pub mod Worked

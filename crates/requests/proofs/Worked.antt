@@ -4,3 +4,4 @@ pub mod IsoTexts
 pub mod Versions
 pub mod Leagues
 pub mod GapReports
+pub mod ListingRooms

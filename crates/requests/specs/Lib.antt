@@ -10,3 +10,4 @@ pub mod Gaps
 pub mod GapReport
 pub mod Leagues
 pub mod LeagueRuns
+pub mod ListingRoom

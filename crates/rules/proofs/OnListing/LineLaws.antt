@@ -4,7 +4,7 @@ use mathlib.Core.Bool.{Bool, true, false, cond}
 use mathlib.Core.List.{List, [], _∷_, _++_, map}
 use Prim.Native.Nat.{ℕ, suc, _+_, _*_, _≤_, _<_}
 use native.Mathlib.Omega.{arith}
-use borrow.Author.Tests.{leb-true}
+use borrow.Author.Tests.{le-leb, lt-leb, leb-true, leb-false}
 use lib.Dec.{leb, eqb}
 use lib.ListN.{length, take, drop, length-append}
 use Rattle.bytes.specs.Bytes.{indexAfter, indexOf}
@@ -38,7 +38,7 @@ lines-first b (c ∷ s) = first-step b (c ∷ s) (eqb b 10) (ap (onto b) (lines-
 -- ---- how long the output of a line is
 
 -- a line's bytes, and 1 for an empty line
-abbrev weight : List ℕ → ℕ
+abbrev pub weight : List ℕ → ℕ
 weight [] = 1
 weight (b ∷ l) = suc (length l)
 
@@ -56,23 +56,33 @@ unfolding requestText
 request-long (gives {a = l} has) = date-long (l .kind) (l .way) (date-outcome (l .way) (l .kind) (l .rest) has)
 request-long (refuses {n = n} e) = let r = refused-long (byte "?") n (omega arith) in omega arith
 
+-- a line of under four bytes is not read: 12 bytes say so
+pub unread-long : (l : List ℕ) → length l < 4 → length (lineOutput l) ≡ 12
+unfolding lineOutput readLine requestText
+unread-long [] h = let e = refused-long (byte "?") 8 (omega arith) in simp length-append (omega arith)
+unread-long (a ∷ []) h = let e = refused-long (byte "?") 8 (omega arith) in simp length-append (omega arith)
+unread-long (a ∷ b ∷ []) h = let e = refused-long (byte "?") 8 (omega arith) in simp length-append (omega arith)
+unread-long (a ∷ b ∷ c ∷ []) h = let e = refused-long (byte "?") 8 (omega arith) in simp length-append (omega arith)
+unread-long (a ∷ b ∷ c ∷ d ∷ rest) h = absurd (omega (arith, h))
+
+pub output-most : (l : List ℕ) → length (lineOutput l) ≤ 34
+unfolding lineOutput
+output-most l = let e = request-long (outcome-request refl l) in simp length-append (omega arith)
+
 -- at most 12 for each byte
 pub output-long : (l : List ℕ) → length (lineOutput l) ≤ 12 * weight l
-unfolding lineOutput readLine requestText
-output-long [] = let e = refused-long (byte "?") 8 (omega arith) in simp length-append (omega arith)
-output-long (a ∷ []) = let e = refused-long (byte "?") 8 (omega arith) in simp length-append (omega arith)
-output-long (a ∷ b ∷ []) = let e = refused-long (byte "?") 8 (omega arith) in simp length-append (omega arith)
-output-long (a ∷ b ∷ c ∷ []) = let e = refused-long (byte "?") 8 (omega arith) in simp length-append (omega arith)
-output-long (a ∷ b ∷ c ∷ d ∷ rest) =
-    let e = request-long (outcome-request refl (a ∷ b ∷ c ∷ d ∷ rest)) in simp length-append (omega arith)
+output-long [] = let e = unread-long [] (omega arith) in omega arith
+output-long (a ∷ []) = let e = unread-long (a ∷ []) (omega arith) in omega arith
+output-long (a ∷ b ∷ []) = let e = unread-long (a ∷ b ∷ []) (omega arith) in omega arith
+output-long (a ∷ b ∷ c ∷ rest) = let e = output-most (a ∷ b ∷ c ∷ rest) in omega arith
 
 -- ---- how long a listing is
 
-abbrev weights : List (List ℕ) → ℕ
+abbrev pub weights : List (List ℕ) → ℕ
 weights [] = 0
 weights (l ∷ ls) = weight l + weights ls
 
-lines-weigh : (s : List ℕ) → weights (lines s) ≤ length s
+pub lines-weigh : (s : List ℕ) → weights (lines s) ≤ length s
 unfolding lines onto
 lines-weigh [] = omega arith
 lines-weigh (b ∷ s) = split (eqb b 10) (lines s) (lines-weigh s)
@@ -83,16 +93,28 @@ lines-weigh (b ∷ s) = split (eqb b 10) (lines s) (lines-weigh s)
     split false ([] ∷ ls) h = omega arith
     split false ((c ∷ l) ∷ ls) h = omega arith
 
-joined-long : (ls : List (List ℕ)) → length (joined (map lineOutput ls)) ≤ 12 * weights ls
+pub joined-long : (ls : List (List ℕ)) → length (joined (map lineOutput ls)) ≤ 12 * weights ls
 unfolding joined
 joined-long [] = omega arith
 joined-long (l ∷ ls) = let e = output-long l in let f = joined-long ls in rw length-append (omega arith)
 
--- 12 bytes for each byte of the longest input
-pub listing-long : (s : List ℕ) → length (listing s) ≤ 786420
+-- an input that is not too long, and one that is
+pub lists : (s : List ℕ) → length s ≤ inputLimit → listing s ≡ joined (map lineOutput (lines s))
 unfolding listing
-listing-long s = split (leb (length s) inputLimit) refl
+lists s h = rw (le-leb _ _ h)
+
+pub lists-none : (s : List ℕ) → inputLimit < length s → listing s ≡ bytes "input too long" ++ lineEnd
+unfolding listing
+lists-none s h = rw (lt-leb _ _ h)
+
+-- 12 bytes for each byte of an input
+pub printed-long : (s : List ℕ) → length (joined (map lineOutput (lines s))) ≤ 12 * length s
+printed-long s = let j = joined-long (lines s) in let w = lines-weigh s in omega arith
+
+-- and of the longest input
+pub listing-long : (s : List ℕ) → length (listing s) ≤ 786420
+listing-long s = by (leb (length s) inputLimit) refl
   where
-    split : (t : Bool) → leb (length s) inputLimit ≡ t → length (cond t (joined (map lineOutput (lines s))) (bytes "input too long" ++ lineEnd)) ≤ 786420
-    split true e = let h = leb-true (length s) inputLimit e in let j = joined-long (lines s) in let w = lines-weigh s in omega arith
-    split false e = omega arith
+    by : (t : Bool) → leb (length s) inputLimit ≡ t → length (listing s) ≤ 786420
+    by true e = let h = leb-true (length s) inputLimit e in let p = printed-long s in rw (lists s h) (omega arith)
+    by false e = rw (lists-none s (leb-false (length s) inputLimit e)) (omega arith)

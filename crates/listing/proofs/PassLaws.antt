@@ -3,17 +3,16 @@ use mathlib.Core.Path.{_≡_, refl, sym, ap, _∙_}
 use mathlib.Core.List.{List, [], _∷_, _++_, append-assoc}
 use Prim.Native.Nat.{ℕ, suc, _+_, _-_, _≤_, _<_}
 use native.Mathlib.Omega.{arith}
-use borrow.Author.Tests.{le-leb, lt-leb}
+use borrow.Author.Tests.{le-leb}
 use borrow.Rule.Slice.PartMut.{putMid}
 use lib.ListN.{length, take, drop, length-append, length-drop, take-append-drop}
 use lib.Seq.{drop-drop, take-at, drop-at, length-take-le}
 use Rattle.bytes.specs.Bytes.{slice, indexOf}
-use Rattle.rules.specs.Words.{bytes}
 use Rattle.rules.specs.Refusals.{Gives}
 use Rattle.rules.specs.Spelling.{putAnswer, putBuffer}
-use Rattle.rules.specs.Listing.{lineOutput, lines, joined, lineEnd, inputLimit, listing}
+use Rattle.rules.specs.Listing.{lineOutput, lines, joined}
 use Rattle.rules.proofs.Shared.Rests.{here, past, to-end}
-use Rattle.rules.proofs.OnListing.LineLaws.{endOf, lines-first, listing-long}
+use Rattle.rules.proofs.OnListing.LineLaws.{endOf, lines-first}
 use Rattle.rules.proofs.OnRefusals.Determined.{backOne}
 use Rattle.rules.proofs.OnSpelling.WriteLaws.{tail-lent, tail-back}
 use Rattle.listing.specs.declared.Listed.{Listed}
@@ -43,19 +42,6 @@ printed-first x l y e = rw e
 pub printed-none : (s : List ℕ) (i : ℕ) → length s ≤ i → printed (drop i s) ≡ []
 unfolding joined lines
 printed-none s i h = rw (past s i h)
-
--- ---- the listing of an input that is not too long
-
-pub lists : (s : List ℕ) → length s ≤ inputLimit → listing s ≡ printed s
-unfolding listing
-lists s h = rw (le-leb _ _ h)
-
-pub lists-none : (s : List ℕ) → inputLimit < length s → listing s ≡ bytes "input too long" ++ lineEnd
-unfolding listing
-lists-none s h = rw (lt-leb _ _ h)
-
-pub printed-long : (s : List ℕ) → length s ≤ inputLimit → length (printed s) ≤ 786420
-printed-long s h = rw (lists s h) at (listing-long s)
 
 -- ---- the measuring pass: what is measured, and what is left, make the whole
 

@@ -14,6 +14,7 @@ use request::Request;
 
 mod output;
 mod passes;
+pub mod room;
 
 // The length of what was written, or that the buffer is shorter than it.
 pub enum Listed {
@@ -26,6 +27,9 @@ const LINE_END: u8 = 10;
 
 // The most bytes of an input that is listed.
 const INPUT_LIMIT: usize = 65535;
+
+// No listing has more bytes for each byte of its input.
+const MOST_FOR_EACH: usize = 12;
 
 // One line's output at the front of a buffer with room for every line, and its length.
 fn build(s: &[u8], out: &mut [u8]) -> usize
@@ -83,12 +87,10 @@ pub fn listing(input: &[u8], out: &mut [u8]) -> Listed
     if INPUT_LIMIT < input.len() {
         return too_long(out);
     }
-    let n = passes::measure(input);
-    if out.len() < n {
-        return Listed::Short;
+    if passes::has_room(input, out.len()) {
+        return Listed::Length(passes::put_lines(input, out));
     }
-    passes::put_lines(input, out);
-    Listed::Length(n)
+    Listed::Short
 }
 
 // The same in a buffer that is never too short, as the program lends it: 12 bytes for each byte of the longest input, and no listing

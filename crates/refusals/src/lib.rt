@@ -24,6 +24,9 @@ pub const BUFFER_SHORT: u8 = 7;
 // An unreadable `datelist` line.
 pub const UNREADABLE_LINE: u8 = 8;
 
+// A listing in a lent buffer: more than 65,535 bytes to be listed.
+pub const TOO_MANY_BYTES: u8 = 8;
+
 // A book: its length.
 pub const BAD_LENGTH: u8 = 9;
 

@@ -17,6 +17,16 @@ use Rattle.rules.proofs.OnRefusals.Determined.{backBy}
 use Rattle.requests.specs.ListingRoom.{tooManyBytes, listingRoom, lentListing}
 use Rattle.requests.proofs.OnListingRoom.RoomLaws.{listing-room, room-reached}
 
+-- ---- what is listed
+
+pub lent-gives : (s : List ℕ) → length s ≤ inputLimit → lentListing s ≡ Gives (listing s)
+unfolding lentListing
+lent-gives s h = rw (le-leb _ _ h)
+
+pub lent-none : (s : List ℕ) → inputLimit < length s → lentListing s ≡ Refused tooManyBytes
+unfolding lentListing
+lent-none s h = rw (lt-leb _ _ h)
+
 -- ---- the three answers
 
 module _ (s l : List ℕ) where
@@ -24,16 +34,16 @@ module _ (s l : List ℕ) where
   answer = putAnswer (lentListing s) l
 
   many : inputLimit < length s → answer ≡ Refused tooManyBytes
-  unfolding putAnswer lentListing
-  many h = rw (lt-leb _ _ h)
+  unfolding putAnswer
+  many h = rw (lent-none s h)
 
   short : length s ≤ inputLimit → length l < length (listing s) → answer ≡ Refused bufferShort
-  unfolding putAnswer lentListing
-  short h q = rw (le-leb _ _ h, lt-leb _ _ q)
+  unfolding putAnswer
+  short h q = rw (lent-gives s h, lt-leb _ _ q)
 
   pub fits : length s ≤ inputLimit → length (listing s) ≤ length l → answer ≡ Gives (length (listing s))
-  unfolding putAnswer lentListing
-  fits h q = rw (le-leb _ _ h, le-leb _ _ q)
+  unfolding putAnswer
+  fits h q = rw (lent-gives s h, le-leb _ _ q)
 
   -- each of them by what it is told apart by
   abbrev numberTold : Answer ℕ → ℕ
@@ -77,8 +87,8 @@ module _ (s l : List ℕ) where
 
   -- a buffer of exactly the listing's length is the listing
   pub exact-room : length s ≤ inputLimit → length l ≡ length (listing s) → putBuffer (lentListing s) l ≡ listing s
-  unfolding putBuffer putAnswer lentListing
-  exact-room h e = rw (le-leb _ _ h, le-leb (length (listing s)) (length l) (omega arith), past l (length (listing s)) (omega arith), append-nil (listing s))
+  unfolding putBuffer putAnswer
+  exact-room h e = rw (lent-gives s h, le-leb (length (listing s)) (length l) (omega arith), past l (length (listing s)) (omega arith), append-nil (listing s))
 
 -- ---- n empty lines need all of the room, so that no less is enough for every input of n bytes
 

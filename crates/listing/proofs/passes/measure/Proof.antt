@@ -7,8 +7,9 @@ use mathlib.Core.List.{_∷_}
 use Prim.Native.Nat.{_+_, _-_}
 use lib.ListN.{length, take, drop}
 use Rattle.rules.specs.Listing.{lines}
+use Rattle.rules.proofs.OnListing.LineLaws.{printed-long}
 use Rattle.listing.specs.Views.{printed}
-use Rattle.listing.proofs.PassLaws.{line-at, measured, printed-none, printed-long}
+use Rattle.listing.proofs.PassLaws.{line-at, measured, printed-none}
 use Rattle.listing.proofs.passes.measure.Statement.{statement}
 use Rattle.listing.proofs.passes.measure.Tie as tie
 
@@ -33,7 +34,7 @@ build-requires c κs = omega (arith, c .before .before .before .before .loop .in
 
 add-total : tie.Need-add-total Inv-loop μ-loop
 add-total c =
-    let h = printed-long (c .before .before .before .before .before .before .before .before .args .s .now) (c .before .before .before .before .before .before .before .before .pre) in let e = measured _ _ _ (c .before .before .before .before .before .before .loop .total) (c .before .build .result) _ (line (c .before .before .before .before)) (c .before .build .ensures .0 .0) (c .before .before .before .before .before .before .loop .inv .0) in omega (arith, h, e)
+    let h = printed-long (c .before .before .before .before .before .before .before .before .args .s .now) in let e = measured _ _ _ (c .before .before .before .before .before .before .loop .total) (c .before .build .result) _ (line (c .before .before .before .before)) (c .before .build .ensures .0 .0) (c .before .before .before .before .before .before .loop .inv .0) in omega (arith, h, e, c .before .before .before .before .before .before .before .before .pre)
 
 loop-again : tie.Need-loop-again Inv-loop μ-loop
 loop-again c =

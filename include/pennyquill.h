@@ -13,13 +13,14 @@
  * pq_order, and never by ==.
  *
  * Every answer has a refusal, 0 where there is none:
- *    1 text over 64 bytes            7 buffer shorter than the text,  13 book or table: nothing at that place
- *    2 text not of that kind           or too few numbers lent        14 table: an entry or a call out of order or not
+ *    1 text over 64 bytes            8 more than 65,535 bytes to be   13 book or table: nothing at that place
+ *    2 text not of that kind           listed                         14 table: an entry or a call out of order or not
  *    3 number not a date,            9 book or table: its length         allowed, or over 1,024 entries of a league
  *      or guess refused             10 book or table: its version     15 table: full, or a league's share of it; no room
  *    4 not of that kind             11 book: a bad record; value is      for a new entry; a table that cannot be moved
  *    5 sum outside 32 bits             the first one's place          16 table: no such field to remove
  *    6 sum outside every date       12 book or new table: no room
+ *    7 buffer shorter than the text, the report or the listing; or too few numbers lent
  *   20 book of version 1: a guessed date appended
  *   21 book moved back to version 1: a record with a field number or a mark; value is the first one's place
  * At 11 and 21 value is the place; at any other refusal all other members are 0. A refusal leaves every byte as it was.
@@ -104,6 +105,26 @@ pq_answer pq_write_dotted(uint32_t kind, uint32_t date, uint8_t *out, size_t roo
 pq_answer pq_write_iso(uint32_t kind, uint32_t date, uint8_t *out, size_t room);
 pq_answer pq_write_iso_date(uint32_t kind, uint32_t date, uint8_t *out, size_t room);
 pq_answer pq_write_exchange(uint32_t kind, uint32_t date, uint8_t *out, size_t room);
+
+/* A listing: many dates read and written in one call, as the program datelist prints them. A line of input is a kind's
+   letter, a way and the rest, between single spaces. It ends at a byte 10, never at a 13, and the last may lack it. Way t
+   reads the rest by pq_read_text; b and g read it as a number, perhaps - and then 1 to 10 digits, by pq_read_number and
+   pq_guess_number. Each line is answered by a line, ended by a byte 10: the letter, the dotted text and the ISO text; or
+   the letter, the word refused and the refusal, 1, 2 or 3, which is 2 for what is no number of 32 bits. A line of any
+   other shape, an empty one too, and one of U b, U g or R g is answered by ? refused 8. None of these refuses the call.
+       D t 1444.11.11         D 1444.11.11 1444-11-11
+       E t 1444.11.11.23      E 1444.11.11.22 1444-11-11T19
+       U b 0                  ? refused 8
+       D t +1444.1.1          D refused 2
+
+   How much to lend: the value of pq_listing_room is 12 * n, which is room for the listing of every input of n bytes, and
+   with n empty lines there is none to spare. It is refused by 8 where n is over 65,535.
+
+   The listing at the front of a buffer: the value is its length, and later bytes stay. A buffer of exactly that length is
+   enough. First comes 8, where n is over 65,535, whatever the room; then 7, where room is under the length. At both
+   nothing is written: input too long, which the program prints, is never written here. The buffers must not overlap. */
+pq_answer pq_listing_room(size_t n);
+pq_answer pq_listing(const uint8_t *input, size_t n, uint8_t *out, size_t room);
 
 /* A book of version 1 at the front of a buffer, of at most 4,096 records. The value is 0; the number of records; the
    new record's place.

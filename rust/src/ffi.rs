@@ -7,7 +7,7 @@
 //! as many bytes or numbers as the length after it says, and no two of them for the same ones.
 #![allow(missing_docs)] // the header has them
 
-/// A date, a length, a place, or a number of records, entries, lookups or figures.
+/// A date, a length, a room, a place, or a number of records, entries, lookups or figures.
 #[repr(C)]
 #[derive(Clone, Copy, Debug, PartialEq, Eq)]
 pub struct Answer {
@@ -57,6 +57,7 @@ unsafe extern "C" {
     pub safe fn pq_to_number(kind: u32, date: u32) -> Number;
     pub safe fn pq_days_until(kind: u32, from: u32, to: u32) -> Number;
     pub safe fn pq_order(kind: u32, one: u32, other: u32) -> Number;
+    pub safe fn pq_listing_room(n: usize) -> Answer;
 
     pub fn pq_read_text(kind: u32, text: *const u8, len: usize) -> Answer;
     pub fn pq_read_iso(kind: u32, text: *const u8, len: usize) -> Answer;
@@ -64,6 +65,7 @@ unsafe extern "C" {
     pub fn pq_write_iso(kind: u32, date: u32, out: *mut u8, room: usize) -> Answer;
     pub fn pq_write_iso_date(kind: u32, date: u32, out: *mut u8, room: usize) -> Answer;
     pub fn pq_write_exchange(kind: u32, date: u32, out: *mut u8, room: usize) -> Answer;
+    pub fn pq_listing(input: *const u8, n: usize, out: *mut u8, room: usize) -> Answer;
     pub fn pq_book_new(b: *mut u8, n: usize) -> Answer;
     pub fn pq_book_check(b: *const u8, n: usize) -> Answer;
     pub fn pq_book_append(b: *mut u8, n: usize, kind: u32, date: u32) -> Answer;

@@ -1,12 +1,13 @@
 //! The dates of strategy-game saves: safe Rust over the proved library, under the names that they have in jomini.
 //!
 //! Six kinds of campaign date, in years without leap days: [`RawDate`], [`Date`], [`DateHour`], [`UniformDate`],
-//! [`Eu5Date`], [`Vic3Date`]. What they share is in [`PdsDate`]; [`book`] keeps dates of all kinds in a buffer,
-//! [`book2`] also the field that each came from, and [`any_book`] reads both; [`gaps`] reports how far the dates of a book
-//! lie apart; [`field_table`] keeps which fields of a save are dates, and [`league_table`] keeps that for two leagues,
-//! each of which sees its own. What they answer comes from the library, whose functions are proved to meet their
-//! contracts, but for what only takes a date's bits apart: the year, month, day and hour as they are stored,
-//! [`PdsDate::is_guessed`], the hash, and [`Eu5Date::hour`] are worked out here.
+//! [`Eu5Date`], [`Vic3Date`]. What they share is in [`PdsDate`]; [`listing()`] reads and writes many dates in one call, as
+//! the program `datelist` does; [`book`] keeps dates of all kinds in a buffer, [`book2`] also the field that each came
+//! from, and [`any_book`] reads both; [`gaps`] reports how far the dates of a book lie apart; [`field_table`] keeps which
+//! fields of a save are dates, and [`league_table`] keeps that for two leagues, each of which sees its own. What they
+//! answer comes from the library, whose functions are proved to meet their contracts, but for what only takes a date's
+//! bits apart: the year, month, day and hour as they are stored, [`PdsDate::is_guessed`], the hash, and
+//! [`Eu5Date::hour`] are worked out here.
 //!
 //! An operation that can be refused gives a [`Result`] with a [`Refusal`], which has a number and a sentence: also where
 //! jomini gives an `Option` (`.ok()` gives that one), and where it panics (`add_days`, and `from_ymd_opt` of
@@ -56,6 +57,7 @@ pub mod field_table;
 pub mod gaps;
 mod league;
 pub mod league_table;
+mod listing;
 mod pds_date;
 mod raw_date;
 mod refusal;
@@ -66,6 +68,7 @@ mod vic3_date;
 pub use date::Date;
 pub use date_hour::DateHour;
 pub use eu5_date::Eu5Date;
+pub use listing::{listing, listing_room, write_listing};
 pub use pds_date::PdsDate;
 pub use raw_date::RawDate;
 pub use refusal::Refusal;

@@ -26,10 +26,12 @@ pub enum Refusal {
     SumTooLarge,
     /// 6: a sum of days that is in no year of 16 bits.
     NoSuchDay,
-    /// 7: a buffer shorter than the text. Across the boundary of [`ffi`](crate::ffi) also too few numbers lent.
+    /// 7: a buffer shorter than the text, the report or the listing. Across the boundary of [`ffi`](crate::ffi) also too
+    /// few numbers lent.
     ShortBuffer,
-    /// 8: a line of `datelist` that is unreadable. No function of this crate reads one.
-    UnreadableLine,
+    /// 8: more than 65,535 bytes to be listed. In a [listing](crate::listing()) it is also the number of an unreadable
+    /// line, which refuses nothing but that line.
+    InputTooLong,
     /// 9: bytes that are no book's, or no table's: under five, or a length that cannot be.
     NotBook,
     /// 10: a book or a table of another version than the call takes.
@@ -77,7 +79,7 @@ impl Refusal {
             Refusal::SumTooLarge => 5,
             Refusal::NoSuchDay => 6,
             Refusal::ShortBuffer => 7,
-            Refusal::UnreadableLine => 8,
+            Refusal::InputTooLong => 8,
             Refusal::NotBook => 9,
             Refusal::WrongVersion => 10,
             Refusal::BadRecord(_) => 11,
@@ -101,7 +103,7 @@ impl Refusal {
             5 => Refusal::SumTooLarge,
             6 => Refusal::NoSuchDay,
             7 => Refusal::ShortBuffer,
-            8 => Refusal::UnreadableLine,
+            8 => Refusal::InputTooLong,
             9 => Refusal::NotBook,
             10 => Refusal::WrongVersion,
             11 => Refusal::BadRecord(value as usize),
@@ -126,8 +128,8 @@ impl Refusal {
             Refusal::NotOfKind => "these are not the fields of a date of this kind",
             Refusal::SumTooLarge => "the sum of days is outside 32 bits",
             Refusal::NoSuchDay => "no year of 16 bits has that day",
-            Refusal::ShortBuffer => "the buffer is shorter than the text",
-            Refusal::UnreadableLine => "the line is unreadable",
+            Refusal::ShortBuffer => "the buffer is shorter than the text or the listing",
+            Refusal::InputTooLong => "the input is over 65,535 bytes",
             Refusal::NotBook => {
                 "the bytes are not those of a book or a table: too few, or a wrong length"
             }

@@ -1,13 +1,15 @@
 /* Every function of the boundary on damaged input: texts cut short, kinds and fields and dates that are none, books, tables,
- * those of two leagues too, ISO texts and padded texts cut and changed at each byte. Each buffer is allocated with exactly
- * its length, so that valgrind sees an access one byte past it. Here it is checked that a refusal changes no byte and gives
- * 0 beside its number (11 and 21: a place), that a text fits its room, that what stands after a text, a book or a table
- * stays, that what is told of a table agrees with its bytes, with the full decoder and with the guess, that a date is read
- * from an ISO text exactly where it is written so, that zeros before a number change no answer, that a date's mark is kept,
- * taken off, refused or not looked at, that what is told of books of both versions agrees with their bytes, there and back
- * too, that a gap report agrees with what the other calls tell of its book, and that two leagues on one table are answered
- * as each would be alone. Prints how many calls there were and a digest of their answers, those of tables, of ISO texts, of
- * padded texts, of books of both versions, of gap reports and of leagues by themselves; the status is 1 after a fault.
+ * those of two leagues too, ISO texts, padded texts and lines to be listed cut and changed at each byte. Each buffer is
+ * allocated with exactly its length, so that valgrind sees an access one byte past it. Here it is checked that a refusal
+ * changes no byte and gives 0 beside its number (11 and 21: a place), that a text fits its room, that what stands after a
+ * text, a book or a table stays, that what is told of a table agrees with its bytes, with the full decoder and with the
+ * guess, that a date is read from an ISO text exactly where it is written so, that zeros before a number change no answer,
+ * that a date's mark is kept, taken off, refused or not looked at, that what is told of books of both versions agrees with
+ * their bytes, there and back too, that a gap report agrees with what the other calls tell of its book, that two leagues on
+ * one table are answered as each would be alone, and that a listing agrees with what the other calls tell of its lines and
+ * has at most 12 bytes for each of its input. Prints how many calls there were and a digest of their answers, those of
+ * tables, of ISO texts, of padded texts, of books of both versions, of gap reports, of leagues and of listings by
+ * themselves; the status is 1 after a fault.
  *
  * This file holds main, the counts and the digest, the copies of exact length and the random numbers; damaged.h names what
  * each other file holds. */
@@ -107,5 +109,7 @@ int main(void) {
     tell("gap reports: ");
     leagues();
     tell("leagues: ");
+    listings();
+    tell("listings: ");
     return status;
 }

@@ -108,4 +108,8 @@ void on_moved_table(const uint8_t *bytes, size_t length);
 
 void leagues(void);
 
+/* ---- listings.c */
+
+void listings(void);
+
 #endif

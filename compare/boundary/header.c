@@ -1,5 +1,6 @@
 /* The header as C reads it: how large its structs are and where their members lie, and one telling answer of every function,
- * those of books in header_books.c, of gap reports in header_gaps.c and of tables of two leagues in header_leagues.c.
+ * those of listings in header_listings.c, of books in header_books.c, of gap reports in header_gaps.c and of tables of two
+ * leagues in header_leagues.c.
  *
  * The proof names members and parameters, and the header binds them by their places, so that two members or two parameters
  * that change places on one side pass the gate. Each answer below would be another then: members and arguments of one call
@@ -249,6 +250,7 @@ int main(void) {
     numbers();
     texts();
     marks();
+    listings();
     books();
     gaps();
     tables();

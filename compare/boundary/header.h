@@ -19,6 +19,10 @@ uint32_t date(int year, uint32_t month, uint32_t day, uint32_t hour);
 /* The same date with the mark of a guess. */
 uint32_t guessed(uint32_t date);
 
+/* ---- header_listings.c */
+
+void listings(void);
+
 /* ---- header_books.c */
 
 void books(void);

@@ -4,3 +4,4 @@ pub mod BookSizes
 pub mod GapSizes
 pub mod TableLaws
 pub mod LeagueSizes
+pub mod ListingSizes

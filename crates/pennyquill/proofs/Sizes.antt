@@ -40,10 +40,14 @@ pub small-demand : {A : Type 0} (P : A → Type 0) (t : Bool) (n : ℕ) (x : Ans
 small-demand P true n x p = p refl
 small-demand P false n x p = tt
 
+-- a number within a bound that no place exceeds
+pub small-within : (most : ℕ) → 4096 ≤ most → (x : Answer ℕ) → Small (λ n. n ≤ most) x → numberOf x ≤ most
+small-within most h (Gives n) p = p
+small-within most h (Refused n) p = zero-le
+small-within most h (RefusedAt n place) p = omega arith
+
 pub small-number : (x : Answer ℕ) → Small Few x → numberOf x ≤ 4096
-small-number (Gives n) p = p
-small-number (Refused n) p = zero-le
-small-number (RefusedAt n place) p = p
+small-number x p = small-within 4096 (omega arith) x p
 
 pub small-place : {A : Type 0} (x : Answer A) → Small Any x → placeOf x ≤ 4096
 small-place (Gives a) p = zero-le

@@ -6,12 +6,13 @@ mod dates;
 mod days;
 mod gaps;
 mod leagues;
+mod listings;
 mod tables;
 mod texts;
 mod versions;
 
-// Refusal 0: value is the answer, a date's number, a length, a count or a place. At 11 and 21 value is the record's place, and at every
-// other refusal 0.
+// Refusal 0: value is the answer, a date's number, a length, a room, a count or a place. At 11 and 21 value is the record's place, and
+// at every other refusal 0.
 #[repr(C)]
 pub struct PqAnswer {
     pub refusal: u32,

@@ -25,9 +25,9 @@
  *   21 book moved back to version 1: a record with a field number or a mark; value is the first one's place
  * At 11 and 21 value is the place; at any other refusal all other members are 0. A refusal leaves every byte as it was.
  *
- * A text, a buffer, a book or a table is a pointer and the number of bytes there. No byte beyond them is touched; where
- * there are none, any pointer will do. It need not be aligned, and no text ends in a byte 0. No function keeps a pointer,
- * allocates or has a state of its own, so that any number of threads may call them.
+ * A text, an input, a buffer, a book or a table is a pointer and the number of bytes there. No byte beyond them is
+ * touched; where there are none, any pointer will do. It need not be aligned, and no text ends in a byte 0. No function
+ * keeps a pointer, allocates or has a state of its own, so that any number of threads may call them.
  */
 #ifndef PENNYQUILL_H
 #define PENNYQUILL_H

@@ -122,8 +122,8 @@ pub extern "C" fn days_until(kind: u32, one: u32, other: u32) -> Number {
 
 /// What the original writes into: a lent buffer, without an allocation.
 pub struct Line<'a> {
-    out: &'a mut [u8],
-    length: usize,
+    pub out: &'a mut [u8],
+    pub length: usize,
 }
 
 impl Write for Line<'_> {

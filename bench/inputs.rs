@@ -158,3 +158,40 @@ pub fn questions(declared: &[(u16, Kind)]) -> Vec<(u32, i32)> {
     };
     numbers(0).into_iter().map(question).collect()
 }
+
+/// Lines for a listing, of every kind and way, so many bytes; the last one is cut. About one in six is refused.
+pub fn mixed_lines(bytes: usize) -> Vec<u8> {
+    let (days, numbers) = (all_days(), numbers(0));
+    let mut random = Random::new(6);
+    let mut lines = String::new();
+    while lines.len() < bytes {
+        let (day, number) = (random.pick(&days), random.pick(&numbers));
+        lines += &match random.index(20) {
+            0..=3 => format!("D t {}", dotted(day)),
+            4 => format!("R t {}", dotted_at_noon(day)),
+            5 => format!("H t {}", dotted_at_noon(day)),
+            6 => format!("U t {}", dotted_padded(uniform(day))),
+            7 => format!("E t {}", dotted_at_noon(day)),
+            8 => format!("V t {}", dotted_at_noon(day)),
+            9..=13 => format!("{} b {number}", random.pick(&['R', 'D', 'H', 'E', 'V'])),
+            14..=17 => format!("{} g {number}", random.pick(&['D', 'H', 'E', 'V'])),
+            _ => refused(&mut random, day),
+        };
+        lines.push('\n');
+    }
+    let mut lines = lines.into_bytes();
+    lines.truncate(bytes);
+    lines
+}
+
+/// With 1, 2, 3 or 8.
+fn refused(random: &mut Random, day: Day) -> String {
+    match random.index(6) {
+        0 => format!("R t {:0>65}", dotted(day)),
+        1 => format!("D t {}", dotted_at_noon(day)),
+        2 => format!("U t {}.2.31", day.year),
+        3 => format!("D g {}", random.between(0, 5000)),
+        4 => format!("U b {}", day.year),
+        _ => String::new(),
+    }
+}

@@ -5,9 +5,11 @@ mod bounded;
 mod gaps;
 mod inputs;
 mod leagues;
+mod listings;
 mod measure;
 mod plain_book;
 mod plain_gaps;
+mod plain_listing;
 mod plain_table;
 #[allow(dead_code)] // the generator uses more of it
 #[path = "../compare/generator/random.rs"]

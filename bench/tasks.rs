@@ -8,6 +8,7 @@ use crate::inputs::{
     steps, table, texts, uniform,
 };
 use crate::leagues;
+use crate::listings;
 use crate::measure::{Times, compare};
 use crate::plain_table::{self, Kind};
 use eu5save::Eu5Date;
@@ -38,6 +39,7 @@ pub fn all(show: Show) {
     look_up_each(show);
     look_up_all(show);
     leagues::all(show);
+    listings::all(show);
 }
 
 fn reading(show: Show) {

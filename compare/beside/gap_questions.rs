@@ -18,7 +18,7 @@ pub const FIGURES: usize = gaps::NUMBERS;
 const FILLER: i64 = 0x5A5A_A5A5_5A5A_A5A5;
 
 /// Bytes or numbers before and after what is lent, which are not. Three bytes before leave it unaligned.
-const BEFORE: usize = 3;
+pub const BEFORE: usize = 3;
 const AFTER: usize = 9;
 
 /// The greatest refusal of these two calls.
@@ -65,7 +65,7 @@ fn count(number: usize) -> u32 {
 }
 
 /// Bytes that differ from place to place.
-fn lent(room: usize) -> Vec<u8> {
+pub fn lent(room: usize) -> Vec<u8> {
     let length = BEFORE + room + AFTER;
     (0..length).map(|place| place as u8 ^ 0xA5).collect()
 }

@@ -10,8 +10,8 @@ use std::io::Write;
 use std::process::{Command, Stdio};
 
 /// The words of the command that runs the program; without it no line is compared.
-const COMMAND: &str = "DATELIST";
-const LONGEST_INPUT: usize = 65_535;
+pub const COMMAND: &str = "DATELIST";
+pub const LONGEST_INPUT: usize = 65_535;
 
 pub fn run(extent: Extent, report: &mut Report) {
     let Ok(command) = std::env::var(COMMAND) else {
@@ -71,26 +71,30 @@ pub fn output(command: &str, input: &[u8]) -> Vec<u8> {
     output.stdout
 }
 
-/// Lines of every kind and way, some of other shapes.
 fn input(random: &mut Random) -> Vec<u8> {
     let mut input = Vec::new();
     while input.len() < LONGEST_INPUT - 100 {
-        let kind = random.pick(&KINDS);
-        let way = random.pick(b"tttbbg");
-        let mut line = vec![kind as u8, b' ', way, b' '];
-        let rest = match way {
-            b't' => text(random, kind),
-            _ => number(random),
-        };
-        line.extend(rest.text());
-        if random.chance(10) {
-            let place = random.index(line.len());
-            line[place] = random.byte();
-        }
-        input.extend(line);
-        input.push(b'\n');
+        input.extend(line(random));
     }
     input
+}
+
+/// A line of any kind and way with its byte 10, now and then of another shape.
+pub fn line(random: &mut Random) -> Vec<u8> {
+    let kind = random.pick(&KINDS);
+    let way = random.pick(b"tttbbg");
+    let mut line = vec![kind as u8, b' ', way, b' '];
+    let rest = match way {
+        b't' => text(random, kind),
+        _ => number(random),
+    };
+    line.extend(rest.text());
+    if random.chance(10) {
+        let place = random.index(line.len());
+        line[place] = random.byte();
+    }
+    line.push(b'\n');
+    line
 }
 
 /// One in four has 17 to 70 bytes.

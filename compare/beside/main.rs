@@ -38,6 +38,9 @@ mod numbers;
 mod padded;
 mod port;
 mod report;
+mod room_inputs;
+mod room_questions;
+mod rooms;
 mod second_books;
 mod second_damage;
 mod spellings;
@@ -49,6 +52,7 @@ mod texts;
 mod valid_texts;
 mod version_questions;
 mod walks;
+mod wide_rooms;
 mod words;
 mod years;
 
@@ -58,7 +62,7 @@ use std::process::ExitCode;
 type Subject = fn(Extent, &mut Report);
 
 /// What takes longest comes last.
-const SUBJECTS: [(&str, Subject); 16] = [
+const SUBJECTS: [(&str, Subject); 17] = [
     ("numbers", numbers::run),
     ("fields", fields::run),
     ("texts", texts::run),
@@ -72,6 +76,7 @@ const SUBJECTS: [(&str, Subject); 16] = [
     ("tables", tables::run),
     ("leagues", leagues::run),
     ("lines", lines::run),
+    ("rooms", rooms::run),
     ("iso", iso_texts::run),
     ("spellings", spellings::run),
     ("days", days::run),

@@ -104,6 +104,13 @@ pub fn gap_figures(book: &mut [u8], out: &mut [i64]) -> Answer {
     unsafe { ffi::pq_gap_figures(bytes, length, out.as_mut_ptr(), out.len()) }
 }
 
+/// The input is lent as ours alone here too, for the same reason.
+pub fn listing(input: &mut [u8], out: &mut [u8]) -> Answer {
+    let (bytes, length) = (input.as_mut_ptr(), input.len());
+    // SAFETY: as above.
+    unsafe { ffi::pq_listing(bytes, length, out.as_mut_ptr(), out.len()) }
+}
+
 pub fn table_new(table: &mut [u8]) -> Answer {
     // SAFETY: as above.
     unsafe { ffi::pq_table_new(table.as_mut_ptr(), table.len()) }

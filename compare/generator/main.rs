@@ -33,6 +33,9 @@ mod orders;
 mod padded;
 mod panics;
 mod random;
+mod room_lines;
+mod room_scenes;
+mod room_script;
 mod spellings;
 mod table_damage;
 mod table_lookups;
@@ -74,6 +77,7 @@ const UNMARKED_STREAM: u64 = ISO_STREAM + 1;
 const VERSION_STREAM: u64 = UNMARKED_STREAM + 1;
 const GAP_STREAM: u64 = VERSION_STREAM + 1;
 const LEAGUE_STREAM: u64 = GAP_STREAM + 1;
+const ROOM_STREAM: u64 = LEAGUE_STREAM + 1;
 
 fn main() {
     let folder = std::env::args_os().nth(1).expect("usage: generate FOLDER");
@@ -91,16 +95,18 @@ fn main() {
         + &table_scenes::all(TABLE_STREAM)
         + &version_scenes::all(VERSION_STREAM)
         + &gap_scenes::all(GAP_STREAM);
-    write_script(folder, "book.script", &script);
+    write_script(folder, "book.script", script.as_bytes());
     let script = league_scenes::all(LEAGUE_STREAM);
-    write_script(folder, "leagues.script", &script);
+    write_script(folder, "leagues.script", script.as_bytes());
+    write_script(folder, "rooms.script", &room_scenes::all(ROOM_STREAM));
     write_questions(folder, "isos", ISO_STREAM, iso_texts::ask);
     write_questions(folder, "unmarked", UNMARKED_STREAM, marks::ask);
 }
 
-fn write_script(folder: &Path, name: &str, script: &str) {
+fn write_script(folder: &Path, name: &str, script: &[u8]) {
     fs::write(folder.join(name), script).expect("the file can be written");
-    println!("{name}: {} lines", script.lines().count());
+    let lines = script.iter().filter(|&&byte| byte == b'\n').count();
+    println!("{name}: {lines} lines");
 }
 
 /// Those that the second reading answers.

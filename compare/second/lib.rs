@@ -10,6 +10,7 @@ pub mod league_table;
 pub mod listing;
 pub mod marks;
 pub mod moves;
+pub mod room;
 pub mod second_book;
 pub mod table;
 pub mod text;

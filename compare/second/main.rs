@@ -7,6 +7,7 @@
 //!     second listing < input               what `datelist` writes for the input
 //!     second book < script                 the answers of book operations and table operations
 //!     second leagues < script              the answers of operations on tables of two leagues
+//!     second rooms < script                the answers of listings into lent room
 //!     second gaps < book                   what `gaps` writes for the book
 //!     second isos < questions              the ISO texts of the questions with what is read
 //!     second unmarked < questions          the dates of the questions without their marks
@@ -27,6 +28,9 @@ mod mark_trials;
 mod marks;
 mod moves;
 mod page;
+mod room;
+mod room_script;
+mod room_trials;
 mod script;
 mod second_book;
 mod table;
@@ -49,16 +53,18 @@ fn main() {
             version_trials::try_all();
             gap_trials::try_all();
             league_trials::try_all();
+            room_trials::try_all();
             page::example().as_bytes().to_vec()
         }
         "listing" => listing::output(&input()),
         "book" => script::run(&input_text()).into_bytes(),
         "leagues" => league_script::run(&input_text()).into_bytes(),
+        "rooms" => room_script::run(&input()),
         "gaps" => gaps::printed(&input()).into_bytes(),
         "isos" => iso::rows(&input_text()).into_bytes(),
         "unmarked" => marks::rows(&input_text()).into_bytes(),
         _ => panic!(
-            "usage: second exchanges | constants | example | listing | book | leagues | gaps | isos | unmarked"
+            "usage: second exchanges | constants | example | listing | book | leagues | rooms | gaps | isos | unmarked"
         ),
     };
     io::stdout()

@@ -34,7 +34,7 @@ pub rooms-hold : answers rooms ≡ literals rooms
 unfolding listingRoom
 rooms-hold = refl
 
--- ---- document 01's example: 122 bytes, of which a listing could have 1,464, and it has 172
+-- ---- document 01's example: 103 bytes, of which a listing could have 1,236; it has 172
 
 abbrev example : List ℕ
 example =

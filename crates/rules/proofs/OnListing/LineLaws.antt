@@ -65,6 +65,7 @@ unread-long (a ∷ b ∷ []) h = let e = refused-long (byte "?") 8 (omega arith)
 unread-long (a ∷ b ∷ c ∷ []) h = let e = refused-long (byte "?") 8 (omega arith) in simp length-append (omega arith)
 unread-long (a ∷ b ∷ c ∷ d ∷ rest) h = absurd (omega (arith, h))
 
+-- no line prints over 34 bytes
 pub output-most : (l : List ℕ) → length (lineOutput l) ≤ 34
 unfolding lineOutput
 output-most l = let e = request-long (outcome-request refl l) in simp length-append (omega arith)

@@ -26,9 +26,9 @@ pub fn all(show: Show) {
     ] {
         list(show, told, &input, room, (second, second_at));
     }
-    let told = "into exactly its length, beside one without allocations";
+    let told = "into 12 for each byte, beside one without allocations";
     let ways: (Plain, Bounded) = (plain_listing::list, plain_listing::list_at);
-    list(show, told, &input, length, ways);
+    list(show, told, &input, most, ways);
 }
 
 fn list(show: Show, told: &str, input: &[u8], room: usize, (plain, bounded): (Plain, Bounded)) {

@@ -24,9 +24,9 @@ listingRoom n = withinLimit n (Gives (12 * n))
 unfoldable pub lentListing : List ℕ → Answer (List ℕ)
 lentListing input = withinLimit (length input) (Gives (listing input))
 
--- "Empty lines meet the bound exactly": each byte but the last is byte 10, so that every line is empty but for the last, which may have
--- one byte
-unfoldable pub emptyLines : List ℕ → Bool
-emptyLines [] = true
-emptyLines (b ∷ []) = true
-emptyLines (b ∷ c ∷ s) = eqb b 10 && emptyLines (c ∷ s)
+-- "Empty lines meet the bound exactly": every line takes one byte of the input, an empty one its byte 10, and a last one that lacks it
+-- the one byte that it has; so each byte but the last is byte 10
+unfoldable pub oneByteLines : List ℕ → Bool
+oneByteLines [] = true
+oneByteLines (b ∷ []) = true
+oneByteLines (b ∷ c ∷ s) = eqb b 10 && oneByteLines (c ∷ s)

@@ -10,7 +10,7 @@ use lib.ListN.{length, replicate, length-append, length-replicate}
 use Rattle.rules.specs.Listing.{lineOutput, onto, lines, joined, inputLimit, listing}
 use Rattle.rules.proofs.OnListing.LineLaws.{unread-long, output-most, weights, lines-weigh, joined-long, lists, printed-long}
 use Rattle.rules.proofs.OnKinds.KindLaws.{left, right}
-use Rattle.requests.specs.ListingRoom.{emptyLines}
+use Rattle.requests.specs.ListingRoom.{oneByteLines}
 
 -- ---- at most 12 bytes for each
 
@@ -53,38 +53,38 @@ one-byte b = by (eqb b 10)
 
 -- ---- exactly so many where each byte but the last ends a line, and fewer elsewhere
 
-meets : (s : List ℕ) → emptyLines s ≡ true → printedLength (lines s) ≡ 12 * length s
-unfolding emptyLines lines joined
+meets : (s : List ℕ) → oneByteLines s ≡ true → printedLength (lines s) ≡ 12 * length s
+unfolding oneByteLines lines joined
 meets [] e = refl
 meets (b ∷ []) e = one-byte b
 meets (b ∷ c ∷ s) e =
-    let p = meets (c ∷ s) (right (eqb b 10) (emptyLines (c ∷ s)) e) in
-    rw (left (eqb b 10) (emptyLines (c ∷ s)) e) (let f = first-unread [] (lines (c ∷ s)) (omega arith) in omega arith)
+    let p = meets (c ∷ s) (right (eqb b 10) (oneByteLines (c ∷ s)) e) in
+    rw (left (eqb b 10) (oneByteLines (c ∷ s)) e) (let f = first-unread [] (lines (c ∷ s)) (omega arith) in omega arith)
 
 -- one byte more before a byte: an empty line takes its 12, and any other byte begins a line
-one-more : (b c : ℕ) (s : List ℕ) (t : Bool) → (emptyLines (c ∷ s) ≡ false → printedLength (lines (c ∷ s)) < 12 * length (c ∷ s))
-    → t && emptyLines (c ∷ s) ≡ false → printedLength (cond t ([] ∷ lines (c ∷ s)) (onto b (lines (c ∷ s)))) < 12 * length (b ∷ c ∷ s)
+one-more : (b c : ℕ) (s : List ℕ) (t : Bool) → (oneByteLines (c ∷ s) ≡ false → printedLength (lines (c ∷ s)) < 12 * length (c ∷ s))
+    → t && oneByteLines (c ∷ s) ≡ false → printedLength (cond t ([] ∷ lines (c ∷ s)) (onto b (lines (c ∷ s)))) < 12 * length (b ∷ c ∷ s)
 one-more b c s true next e = let p = next e in let f = first-unread [] (lines (c ∷ s)) (omega arith) in omega arith
 one-more b c s false next e = begun b (length s) (lines (c ∷ s)) (lines-weigh (c ∷ s))
 
-spares : (s : List ℕ) → emptyLines s ≡ false → printedLength (lines s) < 12 * length s
-unfolding emptyLines lines
+spares : (s : List ℕ) → oneByteLines s ≡ false → printedLength (lines s) < 12 * length s
+unfolding oneByteLines lines
 spares [] e = absurd (subst T e tt)
 spares (b ∷ []) e = absurd (subst T e tt)
 spares (b ∷ c ∷ s) e = one-more b c s (eqb b 10) (spares (c ∷ s)) e
 
 -- the inputs that leave none of 12 × n bytes to spare
-pub room-met : (s : List ℕ) → length s ≤ inputLimit → (length (listing s) ≡ 12 * length s) ↔ (emptyLines s ≡ true)
-room-met s h = rw (lists s h) (met (emptyLines s) refl, meets s)
+pub room-met : (s : List ℕ) → length s ≤ inputLimit → (length (listing s) ≡ 12 * length s) ↔ (oneByteLines s ≡ true)
+room-met s h = rw (lists s h) (met (oneByteLines s) refl, meets s)
   where
-    met : (t : Bool) → emptyLines s ≡ t → printedLength (lines s) ≡ 12 * length s → t ≡ true
+    met : (t : Bool) → oneByteLines s ≡ t → printedLength (lines s) ≡ 12 * length s → t ≡ true
     met true e q = refl
     met false e q = let p = spares s e in absurd (omega arith)
 
 -- ---- for every n an input of n bytes: n empty lines
 
-ends-only : (n : ℕ) → emptyLines (replicate n 10) ≡ true
-unfolding emptyLines
+ends-only : (n : ℕ) → oneByteLines (replicate n 10) ≡ true
+unfolding oneByteLines
 ends-only zero = refl
 ends-only (suc zero) = refl
 ends-only (suc (suc n)) = ends-only (suc n)

@@ -15,7 +15,7 @@ use Rattle.rules.specs.Spelling.{decimalIn, decimal, filled, dottedHour, dotted
 use Rattle.rules.specs.Listing.{kindOfLetter, wayOfLetter, readLine, digitsAsNumber, lineNumber, dateBy, dateText, requestText, lineOutput, lineEnd, onto, lines, joined, listing}
 use Rattle.rules.proofs.Worked.Cases.{Case, _is_, answers, literals}
 use Rattle.rules.proofs.Worked.Lines.{_line_}
-use Rattle.requests.specs.ListingRoom.{listingRoom, lentListing, emptyLines}
+use Rattle.requests.specs.ListingRoom.{listingRoom, lentListing, oneByteLines}
 
 -- ---- how much to lend
 
@@ -98,14 +98,14 @@ buffers-hold = refl
 
 abbrev bounds : List (Case Bool)
 bounds =
-    (emptyLines [] is true)
-    ∷ (emptyLines (replicate 1 10) is true)
-    ∷ (emptyLines (bytes "D") is true)
-    ∷ (emptyLines (replicate 2 10 ++ bytes "D") is true)
-    ∷ (emptyLines (bytes "D" ++ lineEnd) is false)
-    ∷ (emptyLines (bytes "DD") is false)
+    (oneByteLines [] is true)
+    ∷ (oneByteLines (replicate 1 10) is true)
+    ∷ (oneByteLines (bytes "D") is true)
+    ∷ (oneByteLines (replicate 2 10 ++ bytes "D") is true)
+    ∷ (oneByteLines (bytes "D" ++ lineEnd) is false)
+    ∷ (oneByteLines (bytes "DD") is false)
     ∷ []
 
 pub bounds-hold : answers bounds ≡ literals bounds
-unfolding emptyLines
+unfolding oneByteLines
 bounds-hold = refl

@@ -1,5 +1,7 @@
 // A book of dates in a buffer that the caller lends: four bytes of length, a version byte, records of five bytes. `rules` says what
 // each answer is, over the format; these are its operations at version 1, each the one of `sized` at version 1's numbers.
+#![tactic(auto)]
+
 ghost use Rattle.std.specs.Prelude.{◌≡◌, true};
 ghost use Rattle.rules.specs.Refusals.{given};
 ghost use Rattle.rules.specs.Book.{check, append_answer, append_buffer, new_answer, new_buffer, kind_code, version1, entry_at, entry_for};

@@ -1,5 +1,7 @@
 // A reader that holds a book of version 1 and a place in it; `any` has one for both versions. Each function takes the struct apart, or
 // puts it together, and leaves the work to one over a slice and a place. Callers who hold a slice use `next_at`.
+#![tactic(auto)]
+
 ghost use Rattle.std.specs.Prelude.{◌≡◌};
 ghost use Rattle.rules.specs.Book.{entry_at, version1};
 ghost use Rattle.book.specs.Views.{found_as, in_bits};

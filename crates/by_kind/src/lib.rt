@@ -1,4 +1,6 @@
 // A text read as a date of any kind: the reader is the kind's own.
+#![tactic(auto)]
+
 ghost use Rattle.std.specs.Prelude.{◌≡◌};
 ghost use Rattle.rules.specs.Kinds.{store};
 ghost use Rattle.rules.specs.Text.{read_text};

@@ -1,5 +1,7 @@
 // A kind as its letter, as `datelist` reads and prints it; a kind as its code and a year as its two's complement, as the book and the
 // C boundary store them; a date as one number, as it crosses that boundary.
+#![tactic(auto)]
+
 ghost use Rattle.std.specs.Prelude.{◌≡◌};
 ghost use Rattle.rules.specs.Listing.{letter, kind_of_letter};
 ghost use Rattle.rules.specs.Book.{kind_code, kind_of_code, twos_complement, year_of_twos};

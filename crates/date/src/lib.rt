@@ -1,4 +1,6 @@
 // The plain date (D): a day of the calendar, without an hour. Its fast path is the crate `fast_date`.
+#![tactic(auto)]
+
 ghost use Rattle.std.specs.Prelude.{◌≡◌, ◌≤◌, length};
 ghost use Rattle.rules.specs.Refusals.{Gives};
 ghost use Rattle.rules.specs.Kinds.{kD, unpacked, least, greatest, from_fields, stored, store_guess, store, store_like, of_date, of_dates, is_guessed, without_mark};

@@ -1,4 +1,6 @@
 // The hourly date (H): a day of the calendar, with an hour of 1 to 24.
+#![tactic(auto)]
+
 ghost use Rattle.std.specs.Prelude.{◌≡◌, ◌≤◌, length};
 ghost use Rattle.rules.specs.Refusals.{Gives};
 ghost use Rattle.rules.specs.Kinds.{kH, unpacked, least, greatest, from_fields, stored, store_guess, store, store_like, of_date, of_dates, is_guessed, without_mark};

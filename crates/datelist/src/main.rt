@@ -1,4 +1,6 @@
 // Lists the dates that standard input asks for: reads all of it, has it listed, writes the listing.
+#![tactic(auto)]
+
 use libc::{STDIN_FILENO, STDOUT_FILENO};
 
 // Room for the longest listing. Its contract says nothing: an `ensures` on an array of this length runs the checker out of stack.

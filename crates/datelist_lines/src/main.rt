@@ -1,4 +1,6 @@
 // `datelist` over some hundred lines: every kind, way and refusal, and odd shapes.
+#![tactic(auto)]
+
 use libc::{STDIN_FILENO, STDOUT_FILENO};
 
 // Room for the longest listing. Its contract says nothing: an `ensures` on an array of this length runs the checker out of stack.

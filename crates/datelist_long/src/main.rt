@@ -1,4 +1,6 @@
 // `datelist` over one byte more than it lists: 65,536 bytes.
+#![tactic(auto)]
+
 use libc::{STDIN_FILENO, STDOUT_FILENO};
 
 // Room for the longest listing. Its contract says nothing: an `ensures` on an array of this length runs the checker out of stack.

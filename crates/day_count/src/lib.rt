@@ -1,6 +1,8 @@
 // Days counted: a date moved by days, the days from one date to another, and the start of a date's day, over the kind.
 // Each date handed in goes through `unpack` first; a kind that lacks the operation answers as for a date not its own.
 // A day number is kept as its two halves: 365 × year ± day of year, the day going away from year 0 on both sides.
+#![tactic(auto)]
+
 ghost use Rattle.std.specs.Prelude.{◌≡◌, ◌-◌, ◌≤◌, ◌<◌, ℤ, ◌+ℤ◌, ◌-ℤ◌};
 ghost use Rattle.std.proofs.Math.IntN.{sub_ℕ};
 ghost use Rattle.sign.specs.Halves.{Halved};

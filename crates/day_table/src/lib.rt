@@ -1,6 +1,8 @@
 // The table of 365 entries from day of year to month and day. It is read through words of four entries: the compiler builds a constant
 // array anew at each call if one place that is read in it is not known when the code is compiled. Here every place is known, so that the
 // array folds away, and what is left is one load of one of 92 words from constant memory, and a shift.
+#![tactic(auto)]
+
 ghost use Rattle.std.specs.Prelude.{◌≡◌, ◌+◌, ◌*◌, ◌≤◌, ◌<◌, get_or};
 ghost use Rattle.rules.specs.Calendar.{month_day};
 ghost use Rattle.day_table.specs.Entries.{four_at, four_from};

@@ -1,4 +1,6 @@
 // Numbers as decimal digits, at the front of a lent buffer.
+#![tactic(auto)]
+
 ghost use Rattle.std.specs.Prelude.{◌≡◌, ◌≤◌, ◌<◌, length};
 ghost use Rattle.rules.specs.Spelling.{decimal, filled};
 ghost use Rattle.digits.specs.Places.{placed, digits_in};

@@ -1,5 +1,7 @@
 // The dotted part of a text, after the year: `.`, month, `.`, day, and perhaps `.` and an hour. Each function reads from a place
 // of the text, and answers what `rules` reads in the rest of the text from there.
+#![tactic(auto)]
+
 ghost use Rattle.std.specs.Prelude.{◌≡◌, ◌∷◌, ◌≤◌, ℤ, drop};
 ghost use Rattle.rules.specs.Words.{byte};
 ghost use Rattle.rules.specs.Refusals.{Gives, ◌then◌};

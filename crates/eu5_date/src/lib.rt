@@ -1,4 +1,6 @@
 // EU5's date (E): a day of the calendar, with an hour component of 0 to 22.
+#![tactic(auto)]
+
 ghost use Rattle.std.specs.Prelude.{◌≡◌, ◌≤◌, length};
 ghost use Rattle.rules.specs.Refusals.{Gives};
 ghost use Rattle.rules.specs.Kinds.{kE, in_game_hour, unpacked, least, greatest, from_fields, stored, store_guess, store, store_like, of_date, of_dates, is_guessed, without_mark};

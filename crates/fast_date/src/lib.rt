@@ -1,4 +1,6 @@
 // D's fast path for YYYY.M.D, YYYY.MM.D, YYYY.M.DD and YYYY.MM.DD: the eight digits of the text as one word.
+#![tactic(auto)]
+
 ghost use Rattle.std.specs.Prelude.{◌≡◌, length};
 ghost use Rattle.util.specs.Word.{bytes_of};
 ghost use Rattle.fast_date.specs.Fast.{quick, eight, quickly};

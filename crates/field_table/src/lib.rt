@@ -1,6 +1,8 @@
 // The field table: which fields of a save hold dates, and of which kind, in a buffer that the caller lends. `requests` says what each
 // answer is, over the table's format; these are its operations at version 1. A declared field goes through the full decoder, an
 // undeclared number through the guess, and neither takes the other's answer.
+#![tactic(auto)]
+
 ghost use Rattle.std.specs.Prelude.{◌≡◌, true};
 ghost use Rattle.rules.specs.Refusals.{Gives, ◌then◌, given};
 ghost use Rattle.rules.specs.Numbers.{guesses};

@@ -1,4 +1,6 @@
 // The texts of a date, into a buffer that the caller lends: dotted, ISO, exchange, and E's ISO date alone.
+#![tactic(auto)]
+
 ghost use Rattle.std.specs.Prelude.{◌≡◌, true, ◌≤◌, ◌<◌, length};
 ghost use Rattle.rules.specs.Refusals.{Gives, given};
 ghost use Rattle.rules.specs.Kinds.{unpacked, handed, of_date};

@@ -1,5 +1,7 @@
 // The frame that books and tables share, in a lent buffer: four bytes of length, a version byte, pieces of one size. How many bytes a
 // piece has, how many pieces there may be and the version are the caller's. Only the leaves touch bytes.
+#![tactic(auto)]
+
 ghost use Rattle.std.specs.Prelude.{◌≡◌, ◌+◌, ◌*◌, ◌≤◌, ◌<◌, length};
 ghost use Rattle.std.proofs.lemmas.List.Edits.{sets};
 ghost use Rattle.rules.specs.Words.{big_bytes};

@@ -1,5 +1,7 @@
 // The gap report of a book of either version: a line for each kind, from one check of the book and one walk for each kind; and its figures
 // as numbers.
+#![tactic(auto)]
+
 ghost use Rattle.std.specs.Prelude.{◌≡◌, ◌++◌, ◌≤◌, length};
 ghost use Rattle.rules.specs.Words.{bytes};
 ghost use Rattle.rules.specs.Refusals.{Gives, Refused, RefusedAt};

@@ -1,4 +1,6 @@
 // Reports the gaps of the book that stands on standard input: reads as many bytes as the longest book has, has them reported, writes that.
+#![tactic(auto)]
+
 use libc::{STDIN_FILENO, STDOUT_FILENO};
 
 // Room for the longest book. Its contract says nothing: an `ensures` on an array of this length runs the checker out of stack.

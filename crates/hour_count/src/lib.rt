@@ -1,6 +1,8 @@
 // Hours counted: a date of H moved by hours, and the hours from one to another; the same of V in blocks of six hours. Over the kind and
 // the hours of a block. Each date handed in goes through `unpack` first; a kind that does not count in such blocks answers as for a date
 // not its own. The count is on the number that H writes, which runs straight through every year.
+#![tactic(auto)]
+
 ghost use Rattle.std.specs.Prelude.{◌≡◌, ◌≤◌, ◌<◌, ◌+ℤ◌, ◌-ℤ◌, ◌*ℤ◌, pos};
 ghost use Rattle.std.proofs.Math.IntN.{sub_ℕ};
 ghost use Rattle.std.specs.Int.Signed.{quot_z};

@@ -1,5 +1,7 @@
 // The ISO text of a date read back, over the kind: the one date that the text could name is found by its numbers, read as loosely as those
 // of a dotted text, and then written and compared with the text, byte by byte. So only the spelling that is written is read.
+#![tactic(auto)]
+
 ghost use Rattle.std.specs.Prelude.{◌≡◌, true, ◌<◌, ℤ, drop};
 ghost use Rattle.rules.specs.Words.{same_bytes};
 ghost use Rattle.rules.specs.Refusals.{given, not_text};

@@ -1,6 +1,8 @@
 // The calendar's steps: month lengths, day of year to month and day and back, and the number that D and H write.
 // A day of year counts from 0, as document 01 counts it: 1 January is 0. (The Rust's `julian_ordinal_day` is one less,
 // -1 for January, for a day that starts at 1.)
+#![tactic(auto)]
+
 ghost use Rattle.std.specs.Prelude.{◌≡◌, ◌≤◌, ◌<◌};
 ghost use Rattle.rules.specs.Calendar.{month_day, month_length, day_of_year};
 ghost use Rattle.rules.specs.Numbers.{straight_at};

@@ -1,4 +1,6 @@
 // What the six kinds share: the kind, a date's fields, its packed word, and the one maker and the one opener over the kind.
+#![tactic(auto)]
+
 ghost use Rattle.std.specs.Prelude.{◌≡◌, ℕ, ◌≤◌, ◌<◌};
 ghost use Rattle.rules.specs.Kinds.{days_in, hour_fits, fits_kind, made, field_set_hour, from_fields, settled_hour, settled, unpacked, handed, of_dates, store_with, store, without_mark};
 ghost use Rattle.rules.specs.Refusals.{Gives, given, not_of_kind};

@@ -1,6 +1,8 @@
 // Runs the script of operations on tables of two leagues that stands on standard input: each line is read, done on the buffer in use, and
 // told.
 // `compare/README.md` has the format of the script and of what is told.
+#![tactic(auto)]
+
 ghost use Rattle.std.specs.Prelude.{◌≤◌, length};
 
 use crate::lines::Line;

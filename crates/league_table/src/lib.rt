@@ -1,5 +1,7 @@
 // A field table that two leagues share, in a buffer that the caller lends: table version 2, whose keys have the league before the field.
 // `requests` says what each answer is. A league is told of its own entries alone: no answer has a count or a place of the other's.
+#![tactic(auto)]
+
 ghost use Rattle.std.specs.Prelude.{◌≡◌, true};
 ghost use Rattle.rules.specs.Refusals.{Gives};
 ghost use Rattle.rules.specs.Book.{new_answer, new_buffer};

@@ -1,4 +1,6 @@
 // The listing of `datelist`: what each line prints, from the line alone, and what the whole input prints.
+#![tactic(auto)]
+
 ghost use Rattle.std.specs.Prelude.{◌≡◌, ◌++◌, ◌≤◌, length};
 ghost use Rattle.rules.specs.Words.{bytes};
 ghost use Rattle.rules.specs.Refusals.{Gives};

@@ -1,4 +1,6 @@
 // Numbers to dates and back, for every kind: the fields of a number, the full decoder, the narrow guess, and what D and H write.
+#![tactic(auto)]
+
 ghost use Rattle.std.specs.Prelude.{◌≡◌, true, ℕ, ◌≤◌, ◌<◌};
 ghost use Rattle.rules.specs.Refusals.{not_number};
 ghost use Rattle.rules.specs.Kinds.{days_in, store_with, store_guess, store, of_date};

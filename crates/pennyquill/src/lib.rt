@@ -1,5 +1,7 @@
 // The library for C and for whatever calls C: numbers of 32 and 64 bits, byte slices, and structs of numbers. Each function finds the
 // kind by its code, takes a date's number apart, makes one call of the crates below, and crosses its answer. None has a requirement.
+#![tactic(auto)]
+
 mod books;
 mod crossing;
 mod dates;

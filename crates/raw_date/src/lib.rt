@@ -1,4 +1,6 @@
 // The raw date (R): any month of 1 to 31 days, with an hour of 1 to 24 or none.
+#![tactic(auto)]
+
 ghost use Rattle.std.specs.Prelude.{◌≡◌, ◌≤◌, length};
 ghost use Rattle.rules.specs.Refusals.{Gives};
 ghost use Rattle.rules.specs.Kinds.{kR, unpacked, least, greatest, from_fields, stored, store, of_date, of_dates, is_guessed, without_mark};

@@ -1,5 +1,7 @@
 // A text after its leading number, for every kind: nothing follows and it is a number text, or the dotted part follows, which the
 // crate `dotted` reads.
+#![tactic(auto)]
+
 ghost use Rattle.std.specs.Prelude.{◌≡◌, drop};
 ghost use Rattle.rules.specs.Words.{fits32};
 ghost use Rattle.rules.specs.Refusals.{◌then◌, not_text};

@@ -1,4 +1,5 @@
 // Document 01's table of refusal numbers, for the code: each by the name that `Refusals` of `rules` has for it.
+#![tactic(auto)]
 
 // A text over the limit.
 pub const TOO_LONG: u8 = 1;

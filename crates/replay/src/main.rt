@@ -1,6 +1,8 @@
 // Asks again what was asked of the original: each line of standard input is a question, and is printed with the port's answer after it.
 // The program is given no answers. The stored output has those of the original, or of the second reading for what the original lacks,
 // and the gate compares the bytes. `compare/README.md` says what a row is.
+#![tactic(auto)]
+
 use codes::Lettered;
 use kinds::Kind;
 use libc::STDIN_FILENO;

@@ -1,4 +1,6 @@
 // A line of `datelist`: what it asks for, and the date that it is answered. "Kind letter, space, way, space, rest."
+#![tactic(auto)]
+
 ghost use Rattle.std.specs.Prelude.{◌≡◌, true, ◌≤◌, ◌<◌, length, drop};
 ghost use Rattle.rules.specs.Kinds.{store_with, store_guess, store};
 ghost use Rattle.rules.specs.Numbers.{reads_numbers, guesses};

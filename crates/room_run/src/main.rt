@@ -1,5 +1,7 @@
 // Runs the script of listings in lent room that stands on standard input: each row is read, done to the input or asked of it, and told.
 // `compare/README.md` has the format of the script and of what is told.
+#![tactic(auto)]
+
 ghost use Rattle.std.specs.Prelude.{◌≤◌, length};
 
 use crate::lines::Line;

@@ -1,5 +1,7 @@
 // Rows of a file, read by place. A reader that does not find its part answers NOWHERE as the
 // place after it, and every reader finds nothing there: so a row is read to its end, and tested once.
+#![tactic(auto)]
+
 ghost use Rattle.std.specs.Prelude.{◌≡◌, ◌+◌, ◌<◌, ◌≤◌, length, drop};
 ghost use Rattle.rows.specs.Rows.{first_byte, after_byte, after_word, ends_row, no_number, row_digits, numbered, starts_with_digit, natural_of, signed_of, whole_of, row_length};
 ghost use Rattle.rows.specs.Views.{number_as, whole_as};

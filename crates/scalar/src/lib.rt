@@ -1,4 +1,6 @@
 // The leading number of a text, and the place after it: jomini's scalar.rs, of which dates use two functions.
+#![tactic(auto)]
+
 ghost use Rattle.std.specs.Prelude.{◌≡◌, Bool, ◌≤◌, length, drop};
 ghost use Rattle.scalar.specs.Number.{most63, partial_of, number_of, leading_number};
 ghost use Rattle.scalar.specs.Views.{partial_as, place_of, value_of, leading_as, next_of};

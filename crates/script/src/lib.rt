@@ -2,6 +2,8 @@
 // read (`naturals`), what is done to the buffer outside the operations (`preparing`), what is told of an operation on a table, in one type
 // (`table_answers`), and the sum that stands for a long buffer (`weighing`). `compare/README.md` has the format of a script and of what is
 // told. What is written stands in the programs.
+#![tactic(auto)]
+
 pub mod naturals;
 pub mod preparing;
 pub mod table_answers;

@@ -1,4 +1,6 @@
 // Room is made for bytes within a lent buffer, and closed up again. Each contract states every byte of the buffer.
+#![tactic(auto)]
+
 ghost use Rattle.std.specs.Prelude.{◌≡◌, ◌+◌, ◌-◌, ◌≤◌, length, drop, replicate};
 ghost use Rattle.std.proofs.Math.Seq.{paste};
 ghost use Rattle.shifts.specs.Shifts.{opened, closed};

@@ -1,4 +1,6 @@
 // Signed numbers as two naturals and back: the arithmetic of years and numbers is done on the halves.
+#![tactic(auto)]
+
 ghost use Rattle.std.specs.Prelude.{◌≡◌, ◌+◌, ◌≤◌};
 ghost use Rattle.std.proofs.Math.IntN.{sub_ℕ};
 ghost use Rattle.sign.specs.Halves.{up, dn, Halved};

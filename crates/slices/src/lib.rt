@@ -1,4 +1,6 @@
 // What is asked of slices of bytes, whatever they hold.
+#![tactic(auto)]
+
 ghost use Rattle.std.specs.Prelude.{◌≡◌};
 ghost use Rattle.rules.specs.Words.{same_bytes};
 

@@ -1,4 +1,6 @@
 // The uniform date (U): twelve months of 30 days, without an hour.
+#![tactic(auto)]
+
 ghost use Rattle.std.specs.Prelude.{◌≡◌, ◌≤◌, length};
 ghost use Rattle.rules.specs.Refusals.{Gives};
 ghost use Rattle.rules.specs.Kinds.{kU, unpacked, least, greatest, from_fields, stored, store, of_date, of_dates, is_guessed, without_mark};

@@ -1,4 +1,6 @@
 // Eight ASCII digits tested and parsed as one 64-bit word, as jomini's util.rs does.
+#![tactic(auto)]
+
 ghost use Rattle.std.specs.Prelude.{◌≡◌, ◌+◌, ◌*◌, ◌^◌, ◌<◌, ◌≤◌, true, [], ◌∷◌, length, take};
 ghost use Rattle.rules.specs.Text.{decimal_value};
 ghost use Rattle.util.specs.Word.{bytes_of, all_digits};

@@ -1,4 +1,6 @@
 // Victoria 3's date (V): a day of the calendar, at hour 0, 6, 12 or 18.
+#![tactic(auto)]
+
 ghost use Rattle.std.specs.Prelude.{◌≡◌, ◌≤◌, length};
 ghost use Rattle.rules.specs.Refusals.{Gives};
 ghost use Rattle.rules.specs.Kinds.{kV, unpacked, least, greatest, from_fields, stored, store_guess, store, store_like, of_date, of_dates, is_guessed, without_mark};

@@ -130,5 +130,5 @@ pub fn put(b: &mut [u8], at: usize, piece: &[u8])
     requires { at + length piece.now ≤ length b.old }
     ensures { b.new ≡ sets b.old at piece.now }
 {
-    bytes::copy(piece, &mut b[at..]);
+    spans::copy(piece, &mut b[at..]);
 }

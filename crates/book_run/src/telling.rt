@@ -30,7 +30,7 @@ fn counted(n: usize) -> u64 {
 
 // A row without its line end.
 fn line(row: &[u8]) {
-    let n = bytes::scan::find(row, 0, row.len(), b'\n');
+    let n = spans::find(row, 0, row.len(), b'\n');
     print(&row[..n]);
 }
 

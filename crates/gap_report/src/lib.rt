@@ -80,7 +80,7 @@ fn put_report(b: &[u8], n: usize, out: &mut [u8]) -> Reported
     if out.len() < length {
         return Reported::Short;
     }
-    bytes::copy(&room[..length], out);
+    spans::copy(&room[..length], out);
     Reported::Length(length)
 }
 
@@ -126,7 +126,7 @@ fn put_refused(out: &mut [u8], n: u8) -> usize
     ensures value { (result ≡ length (bytes "refused" ++ spaced (decimal n))) × (result ≤ 28) }
     ensures out_after { out.new ≡ placed (bytes "refused" ++ spaced (decimal n)) out.old }
 {
-    bytes::copy(b"refused", out);
+    spans::copy(b"refused", out);
     7 + lines::put_number(&mut out[7..], n as u64)
 }
 

@@ -38,7 +38,7 @@ fn word_of(word: u16) -> u64 {
 
 // A row without its line end.
 fn line(row: &[u8]) {
-    let n = bytes::scan::find(row, 0, row.len(), b'\n');
+    let n = spans::find(row, 0, row.len(), b'\n');
     print(&row[..n]);
 }
 

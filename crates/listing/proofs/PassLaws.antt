@@ -7,7 +7,7 @@ use borrow.Author.Tests.{le-leb}
 use borrow.Rule.Slice.PartMut.{put_mid}
 use lib.ListN.{length, take, drop, length-append, length-drop, take-append-drop}
 use lib.Seq.{drop-drop, take_at, drop_at, length-take-le}
-use Rattle.bytes.specs.Bytes.{slice, index_of}
+use Rattle.spans.specs.Bytes.{slice, index_of}
 use Rattle.rules.specs.Refusals.{Gives}
 use Rattle.rules.specs.Spelling.{put_answer, put_buffer}
 use Rattle.rules.specs.Listing.{line_output, lines, joined}

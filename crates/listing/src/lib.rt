@@ -61,7 +61,7 @@ pub fn line(s: &[u8], out: &mut [u8]) -> Listed
     if out.len() < n {
         return Listed::Short;
     }
-    bytes::copy(&room[..n], out);
+    spans::copy(&room[..n], out);
     Listed::Length(n)
 }
 
@@ -74,7 +74,7 @@ fn too_long(out: &mut [u8]) -> Listed
     if out.len() < 15 {
         return Listed::Short;
     }
-    bytes::copy(b"input too long\n", out);
+    spans::copy(b"input too long\n", out);
     Listed::Length(15)
 }
 

@@ -17,7 +17,7 @@ pub(crate) fn put_refused(out: &mut [u8], front: u8, n: u8) -> usize
     ensures value { (result ≡ length (refused_text front n ++ line_end)) × (result ≤ 40) }
     ensures out_after { out.new ≡ placed (refused_text front n ++ line_end) out.old }
 {
-    bytes::copy(b" refused ", &mut out[1..]);
+    spans::copy(b" refused ", &mut out[1..]);
     out[0] = front;
     out[10] = b'0' + n;
     out[11] = crate::LINE_END;

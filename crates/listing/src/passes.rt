@@ -15,7 +15,7 @@ pub(crate) fn measure(s: &[u8]) -> usize
     let mut total = 0;
     let mut at = 0;
     while at < s.len() {
-        let end = bytes::scan::find(s, at, s.len(), crate::LINE_END);
+        let end = spans::find(s, at, s.len(), crate::LINE_END);
         total += crate::build(&s[at..end], &mut room);
         at = end + 1;
     }
@@ -56,7 +56,7 @@ pub(crate) fn put_lines(s: &[u8], out: &mut [u8]) -> usize
     let mut from = 0;
     let mut filled = 0;
     while from < s.len() {
-        let end = bytes::scan::find(s, from, s.len(), crate::LINE_END);
+        let end = spans::find(s, from, s.len(), crate::LINE_END);
         filled += put_line(&s[from..end], &mut out[filled..]);
         from = end + 1;
     }

@@ -39,7 +39,7 @@ fn signed(n: Halves) {
 
 // A row without its line end.
 fn question(row: &[u8]) {
-    let n = bytes::scan::find(row, 0, row.len(), b'\n');
+    let n = spans::find(row, 0, row.len(), b'\n');
     print(&row[..n]);
 }
 

@@ -6,7 +6,7 @@ use Prim.Native.Nat.{ℕ, ◌+◌}
 use lib.Dec.{eqb}
 use lib.ListN.{length, drop}
 use lib.Seq.{drop-drop}
-use Rattle.bytes.specs.Bytes.{index_of, slice}
+use Rattle.spans.specs.Bytes.{index_of, slice}
 use Rattle.rules.specs.Words.{byte}
 use Rattle.rules.specs.Text.{Read}
 use Rattle.rules.proofs.Shared.Rests.{to_end}

@@ -1,6 +1,6 @@
 -- What a row of a script says: `compare/README.md` has the rows. Assumes nothing.
 use Rattle.std.specs.Prelude.{ℕ, not, cond, ◌&&◌, List, eqb, length, take, drop}
-use Rattle.bytes.specs.Bytes.{index_of}
+use Rattle.spans.specs.Bytes.{index_of}
 use Rattle.rules.specs.Words.{bytes, byte}
 use Rattle.rules.specs.Text.{Read, at_end}
 use Rattle.rows.specs.Rows.{Number, first_byte, after_byte, after_word, ends_row, natural_of}

@@ -30,7 +30,7 @@ pub(crate) fn read(row: &[u8]) -> Line
     }
     let n = rows::natural(row, WORD);
     let b = naturals::byte8(row, rows::after(row, n.next, b' '));
-    let text = bytes::scan::find(row, WORD, row.len(), b'\n');
+    let text = spans::find(row, WORD, row.len(), b'\n');
     let count = naturals::place_of(n.up);
     let found = worded(row, b"clear", WORD, Line::Clear, Line::Unread);
     let line = Line::Put {
@@ -75,6 +75,6 @@ pub(crate) fn text(row: &[u8], from: usize) -> &[u8]
     if row.len() < from {
         return &row[..0];
     }
-    let end = bytes::scan::find(row, from, row.len(), b'\n');
+    let end = spans::find(row, from, row.len(), b'\n');
     &row[from..end]
 }

@@ -16,7 +16,7 @@ fn number(n: u64) {
 
 // A row without its line end, and what follows it.
 pub(crate) fn line(row: &[u8], rest: &[u8]) {
-    let n = bytes::scan::find(row, 0, row.len(), b'\n');
+    let n = spans::find(row, 0, row.len(), b'\n');
     print(&row[..n]);
     print(rest);
 }

@@ -8,7 +8,7 @@ use native.Mathlib.Omega.{arith}
 use lib.Dec.{leb, lit<}
 use lib.ListN.{length, get_or, drop, length-drop}
 use borrow.Author.Tests.{le-leb, lt-leb, leb-true, leb-false}
-use Rattle.bytes.specs.Bytes.{slice, index_of}
+use Rattle.spans.specs.Bytes.{slice, index_of}
 use Rattle.rules.specs.Refusals.{Gives, Refused, ◌then◌, demand, not_text}
 use Rattle.rules.specs.Text.{Read, digits, after_digits, at_end}
 use Rattle.rules.proofs.Shared.Rests.{here, past, to_end}

@@ -2,7 +2,7 @@
 -- nothing, and in nothing no reader finds a part: so a row that is not as it is read never comes to its line end. Assumes nothing.
 use Rattle.std.specs.Prelude.{ℕ, ◌+◌, min, Bool, false, cond, ◌&&◌, List, [], ◌∷◌, leb, eqb, ℤ, pos, length}
 use Rattle.std.proofs.Math.IntN.{sub_ℕ}
-use Rattle.bytes.specs.Bytes.{index_of}
+use Rattle.spans.specs.Bytes.{index_of}
 use Rattle.rules.specs.Words.{byte}
 use Rattle.rules.specs.Refusals.{Answer, Gives, Refused, RefusedAt, ◌then◌, demand, not_text}
 use Rattle.rules.specs.Text.{Read, is_digit, at_end}

@@ -32,7 +32,7 @@ pub fn next_line(s: &[u8], from: usize) -> usize
     if s.len() <= from {
         return from;
     }
-    let end = bytes::scan::find(s, from, s.len(), b'\n');
+    let end = spans::find(s, from, s.len(), b'\n');
     if end < s.len() {
         return end + 1;
     }

@@ -20,7 +20,7 @@ pub fn put(buffer: &mut [u8], target: &[u8]) -> bool
     ensures buffer_after { buffer.new ≡ cond result target.now buffer.old }
 {
     if buffer.len() == target.len() {
-        bytes::copy(target, buffer);
+        spans::copy(target, buffer);
         return true;
     }
     false

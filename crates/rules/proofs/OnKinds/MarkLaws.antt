@@ -1,6 +1,6 @@
 -- #106: which marks are allowed; the mark of what is handed out; and that nothing that is answered of a date sees its mark.
 -- Assumes nothing.
-use mathlib.Core.Path.{◌≡◌, refl, ◌∙◌, sym, ap}
+use mathlib.Core.Path.{◌≡◌, refl, ◌∙◌, sym, ap, subst}
 use mathlib.Core.Bool.{Bool, true, false, cond}
 use Prim.Native.Nat.{ℕ, zero, suc, ◌/◌, ◌%◌, ◌<◌}
 use native.Mathlib.Omega.{arith}
@@ -109,6 +109,10 @@ month-of word = omega arith
 day-of : (word : ℕ) → word / 128 % 32 ≡ word / 4 / 32 % 32
 day-of word = omega arith
 
+itself-is-same : (f : Fields) → order f f ≡ Same
+unfolding order
+itself-is-same f = rw (no_lt f.year f.year (omega arith), le-ltb (packed f) (packed f) (omega arith))
+
 -- two stored dates are in order Same exactly where they are the same in fields, whatever their marks
 module _ (d e : Stored) where
   pub same-is-alike : order (unpacked d) (unpacked e) ≡ Same → unpacked d ≡ unpacked e
@@ -123,7 +127,4 @@ module _ (d e : Stored) where
       (day-of d.word ∙ ap (λ w. w / 32 % 32) same ∙ sym (day-of e.word)) (ap (λ w. w % 32) same)
 
   pub alike-is-same : unpacked d ≡ unpacked e → order (unpacked d) (unpacked e) ≡ Same
-  unfolding order
-  alike-is-same p =
-      let f = unpacked e in
-      rw (p, no_lt f.year f.year (omega arith), le-ltb (packed f) (packed f) (omega arith))
+  alike-is-same p = subst (λ (f : Fields). order f (unpacked e) ≡ Same) (sym p) (itself-is-same (unpacked e))

@@ -7,7 +7,7 @@ use native.Mathlib.Omega.{arith}
 use borrow.Author.Tests.{le-leb, lt-leb, leb-true, leb-false}
 use lib.Dec.{leb, eqb}
 use lib.ListN.{length, take, drop, length-append}
-use Rattle.bytes.specs.Bytes.{index_after, index_of}
+use Rattle.spans.specs.Bytes.{index_after, index_of}
 use Rattle.rules.specs.Words.{byte, bytes}
 use Rattle.rules.specs.Refusals.{Answer, unreadable_line}
 use Rattle.rules.specs.Kinds.{Kind, Fields}

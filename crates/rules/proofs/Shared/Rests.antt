@@ -6,7 +6,7 @@ use native.Mathlib.Nat.{le_refl}
 use native.Mathlib.Numerals.{add-one}
 use lib.ListN.{length, get_or, drop, drop_of_length-le}
 use lib.Seq.{drop-cons, take_all}
-use Rattle.bytes.specs.Bytes.{slice}
+use Rattle.spans.specs.Bytes.{slice}
 
 pub here : (s : List ℕ) (i : ℕ) → i < length s → drop i s ≡ get_or s i 0 ∷ drop (i + 1) s
 here s i h = rw (add-one, drop-cons s i 0)

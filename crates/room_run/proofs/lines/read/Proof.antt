@@ -1,7 +1,7 @@
 -- `room_run::lines::read` meets its contract: a remark by its first byte, and else by each word in turn. Assumes nothing.
 use native.Mathlib.Omega.{arith}
 use borrow.Author.Tests.{eq-eqb, ne_eqb}
-use Rattle.bytes.specs.Bytes.{index_of}
+use Rattle.spans.specs.Bytes.{index_of}
 use Rattle.rules.proofs.Shared.Rests.{past}
 use Rattle.rows.specs.Rows.{natural_of}
 use Rattle.script.specs.Naturals.{natural_up_to}

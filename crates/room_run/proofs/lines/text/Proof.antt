@@ -3,7 +3,7 @@ use mathlib.Core.Path.{◌≡◌}
 use native.Mathlib.Omega.{arith}
 use Prim.Native.Nat.{◌-◌}
 use lib.ListN.{drop}
-use Rattle.bytes.specs.Bytes.{index_of}
+use Rattle.spans.specs.Bytes.{index_of}
 use Rattle.rules.proofs.Shared.Rests.{past, to_end}
 use borrow.Author.Rules.{rules}
 use Rattle.room_run.proofs.lines.text.Statement.{statement}

@@ -5,12 +5,12 @@ use Rattle.digits.proofs.Places.{own-digits}
 use Rattle.digits.proofs.put_decimal.Statement.{statement}
 use Rattle.digits.proofs.put_decimal.Tie as tie
 
-put-digits-requires : tie.Need-put-digits-requires
-put-digits-requires c κs = omega (arith, c.before.digits_of.ensures.0)
+put_digits-requires : tie.Need-put_digits-requires
+put_digits-requires c κs = omega (arith, c.digits_of-count.ensures.0)
 
 returns : tie.Need-returns
 returns c =
-    (c.before.before.before.before.digits_of.ensures.0, rw (own-digits c.before.before.before.before.before.before.args.n (omega arith), ← c.before.before.before.before.digits_of.ensures.0) c.before.before.put-digits.ensures)
+    (c.digits_of-count.ensures.0, rw (own-digits c.args.n (omega arith), ← c.digits_of-count.ensures.0) c.put_digits.ensures)
 
-pub put-decimal-spec : {M : Type 1} → statement M
-put-decimal-spec = tie.close (tie.spec (λ c κs. search rules) put-digits-requires (λ c. search rules) returns)
+pub put_decimal_spec : {M : Type 1} → statement M
+put_decimal_spec = tie.close (tie.spec (λ c κs. search rules) put_digits-requires (λ c. search rules) returns)

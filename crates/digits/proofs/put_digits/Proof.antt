@@ -10,28 +10,28 @@ use Rattle.digits.proofs.Places.{digit-less, digit-none, digits-length}
 use Rattle.digits.proofs.put_digits.Statement.{statement}
 use Rattle.digits.proofs.put_digits.Tie as tie
 
-abbrev invariant-loop : tie.invariant-loop
+abbrev invariant-loop : tie.invariant-loop-i
 invariant-loop out₀ n w i₀ m₀ out i m =
     (digits_in i m ++ drop i out ≡ placed (digits_in w n) out₀) × (i ≤ length out) × (length out ≡ length out₀)
 
-abbrev decreases-loop : tie.decreases-loop
+abbrev decreases-loop : tie.decreases-loop-i
 decreases-loop out₀ n w i₀ m₀ out i m = i
 
-loop-holds : tie.Need-loop-init invariant-loop decreases-loop
+loop-holds : tie.Need-loop-i-init invariant-loop decreases-loop
 loop-holds c = (rw (digits-length _ _), search rules, refl)
 
-loop-again : tie.Need-loop-preserved invariant-loop decreases-loop
+loop-again : tie.Need-loop-i-preserved invariant-loop decreases-loop
 loop-again c =
-    (digit-less _ _ _ c.loop-test.true c.before.loop.invariant.1 ∙ c.before.loop.invariant.0, simp length-set (omega arith), simp length-set c.before.loop.invariant.2)
+    (digit-less _ _ _ c.loop-i-test.true c.loop-i.invariant.1 ∙ c.loop-i.invariant.0, simp length-set (omega arith), simp length-set c.loop-i.invariant.2)
 
-same_length : tie.Need-same-length invariant-loop decreases-loop
-same_length c = c.before.loop.invariant.2
+same_length : tie.Need-shape_of-out invariant-loop decreases-loop
+same_length c = c.loop-i.invariant.2
 
 returns : tie.Need-returns invariant-loop decreases-loop
-returns c = digit-none _ _ _ c.loop-test.false ∙ c.before.loop.invariant.0
+returns c = digit-none _ _ _ c.loop-i-test.false ∙ c.loop-i.invariant.0
 
-pub put-digits-spec : {M : Type 1} → statement M
-put-digits-spec =
+pub put_digits_spec : {M : Type 1} → statement M
+put_digits_spec =
     tie.close
     (tie.spec
     invariant-loop

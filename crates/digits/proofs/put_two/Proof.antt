@@ -9,6 +9,6 @@ use Rattle.digits.proofs.put_two.Tie as tie
 returns : tie.Need-returns
 returns c = rw (filled-two _ c.requires.0) (sets-eq (_ ∷ _ ∷ []) c.args.out.now 0 c.requires.1)
 
-pub put-two-spec : {M : Type 1} → statement M
-put-two-spec =
+pub put_two_spec : {M : Type 1} → statement M
+put_two_spec =
     tie.close (tie.spec (λ c. search rules) (λ c. search rules) (λ c. search rules) (λ c. search rules) (λ c. search rules) returns)

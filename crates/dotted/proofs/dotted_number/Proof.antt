@@ -6,20 +6,20 @@ use Rattle.rules.proofs.Shared.Rests.{here, past}
 use Rattle.dotted.proofs.dotted_number.Statement.{statement}
 use Rattle.dotted.proofs.dotted_number.Tie as tie
 
-returns : tie.Need-returns
+returns : tie.Need-returns-then-s-at
 unfolding after_dot
-returns c = rw (past _ _ c.if1.true)
+returns c = rw (past _ _ c.if-s-at.true)
 
-returns-2 : tie.Need-returns-2
+returns-2 : tie.Need-returns-then-s-at-ne46
 unfolding after_dot
-returns-2 c = rw (here _ _ c.before.before.if1.false, ne_eqb _ _ c.if2.true)
+returns-2 c = rw (here _ _ c.if-s-at.false, ne_eqb _ _ c.if-s-at-ne46.true)
 
-returns-3 : tie.Need-returns-3
+returns-3 : tie.Need-returns
 unfolding after_dot
 returns-3 c =
-    rw (c.one-or-two.ensures, here _ _ c.before.before.before.if1.false, eq-eqb _ _ c.before.if2.false)
+    rw (c.one_or_two.ensures, here _ _ c.if-s-at.false, eq-eqb _ _ c.if-s-at-ne46.false)
 
-pub dotted-number-spec : {M : Type 1} → statement M
-dotted-number-spec =
+pub dotted_number_spec : {M : Type 1} → statement M
+dotted_number_spec =
     tie.close
     (tie.spec returns (λ c. search rules) returns-2 (λ c. search rules) (λ c κs. search rules) returns-3)

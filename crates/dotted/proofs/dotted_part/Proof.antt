@@ -6,27 +6,27 @@ use Rattle.dotted.proofs.Laws.{then-then}
 use Rattle.dotted.proofs.dotted_part.Statement.{statement}
 use Rattle.dotted.proofs.dotted_part.Tie as tie
 
-returns : tie.Need-returns
+returns : tie.Need-returns-in_default
 unfolding dotted_part
-returns c = λ y. simp then-then (rw (← c.before.before.dotted-number.ensures, c.enum_told.given.1))
+returns c = λ y. simp then-then (rw (← c.dotted_number.ensures, c.in_default.is))
 
-returns-2 : tie.Need-returns-2
+returns-2 : tie.Need-returns-in_default-dotted_number
 unfolding dotted_part
 returns-2 c =
-    λ y. simp then-then (rw (← c.before.before.before.before.before.before.dotted-number.ensures, c.before.before.before.before.month.given.1, ← c.before.before.dotted-number2.ensures, c.enum-told2.given.1))
+    λ y. simp then-then (rw (← c.dotted_number.ensures, c.in-Value.is, ← c.dotted_number-2.ensures, c.in_default-dotted_number.is))
 
-returns-3 : tie.Need-returns-3
+returns-3 : tie.Need-returns-in_default-hour_after
 unfolding dotted_part
 returns-3 c =
-    λ y. simp then-then (rw (← c.before.before.before.before.before.before.before.before.before.before.dotted-number.ensures, c.before.before.before.before.before.before.before.before.month.given.1, ← c.before.before.before.before.before.before.dotted-number2.ensures, c.before.before.before.before.day.given.1, ← c.before.before.hour-after.ensures, c.enum-told3.given.1))
+    λ y. simp then-then (rw (← c.dotted_number.ensures, c.in-Value.is, ← c.dotted_number-2.ensures, c.in-Value-dotted_number.is, ← c.hour_after.ensures, c.in_default-hour_after.is))
 
-returns-4 : tie.Need-returns-4
+returns-4 : tie.Need-returns
 unfolding dotted_part
 returns-4 c =
-    λ y. simp then-then (rw (← c.before.before.before.before.before.before.before.before.before.before.before.dotted-number.ensures, c.before.before.before.before.before.before.before.before.before.month.given.1, ← c.before.before.before.before.before.before.before.dotted-number2.ensures, c.before.before.before.before.before.day.given.1, ← c.before.before.before.hour-after.ensures, c.before.hour.given.1))
+    λ y. simp then-then (rw (← c.dotted_number.ensures, c.in-Value.is, ← c.dotted_number-2.ensures, c.in-Value-dotted_number.is, ← c.hour_after.ensures, c.in-Value-hour_after.is))
 
-pub dotted-part-spec : {M : Type 1} → statement M
-dotted-part-spec =
+pub dotted_part_spec : {M : Type 1} → statement M
+dotted_part_spec =
     tie.close
     (tie.spec
     (λ c κs. search rules)

@@ -6,31 +6,31 @@ use Rattle.rules.proofs.Shared.Rests.{here, past}
 use Rattle.dotted.proofs.hour_at.Statement.{statement}
 use Rattle.dotted.proofs.hour_at.Tie as tie
 
-returns : tie.Need-returns
+returns : tie.Need-returns-then-s-at
 unfolding hour_after after_dot one_or_two
-returns c = rw (past _ _ c.if1.true)
+returns c = rw (past _ _ c.if-s-at.true)
 
-returns-2 : tie.Need-returns-2
+returns-2 : tie.Need-returns-then-s-at-eq48
 unfolding hour_after after_dot
-returns-2 c = rw (here _ _ c.before.before.if1.false, eq-eqb _ _ c.if2.true)
+returns-2 c = rw (here _ _ c.if-s-at.false, eq-eqb _ _ c.if-s-at-eq48.true)
 
-returns-3 : tie.Need-returns-3
+returns-3 : tie.Need-returns-in_default
 unfolding hour_after after_dot
 returns-3 c =
-    rw (← c.before.before.one-or-two.ensures, c.enum_told.given.1, here _ _ c.before.before.before.before.before.if1.false, ne_eqb _ _ c.before.before.before.if2.false)
+    rw (← c.one_or_two.ensures, c.in_default.is, here _ _ c.if-s-at.false, ne_eqb _ _ c.if-s-at-eq48.false)
 
-returns-4 : tie.Need-returns-4
+returns-4 : tie.Need-returns-then-next-s
 unfolding hour_after after_dot
 returns-4 c =
-    rw (← c.before.before.before.before.one-or-two.ensures, c.before.before.value.given.1, here _ _ c.before.before.before.before.before.before.before.if1.false, ne_eqb _ _ c.before.before.before.before.before.if2.false, here _ _ c.if3.true)
+    rw (← c.one_or_two.ensures, c.in-Value.is, here _ _ c.if-s-at.false, ne_eqb _ _ c.if-s-at-eq48.false, here _ _ c.if-next-s.true)
 
-returns-5 : tie.Need-returns-5
+returns-5 : tie.Need-returns
 unfolding hour_after after_dot
 returns-5 c =
-    rw (← c.before.before.before.before.one-or-two.ensures, c.before.before.value.given.1, here _ _ c.before.before.before.before.before.before.before.if1.false, ne_eqb _ _ c.before.before.before.before.before.if2.false, past _ _ c.if3.false)
+    rw (← c.one_or_two.ensures, c.in-Value.is, here _ _ c.if-s-at.false, ne_eqb _ _ c.if-s-at-eq48.false, past _ _ c.if-next-s.false)
 
-pub hour-at-spec : {M : Type 1} → statement M
-hour-at-spec =
+pub hour_at_spec : {M : Type 1} → statement M
+hour_at_spec =
     tie.close
     (tie.spec
     returns

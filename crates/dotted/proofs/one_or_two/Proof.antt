@@ -6,26 +6,26 @@ use Rattle.rules.proofs.Shared.Rests.{here, past}
 use Rattle.dotted.proofs.one_or_two.Statement.{statement}
 use Rattle.dotted.proofs.one_or_two.Tie as tie
 
-returns : tie.Need-returns
+returns : tie.Need-returns-then-s-at
 unfolding one_or_two
-returns c = rw (past _ _ c.if1.true)
+returns c = rw (past _ _ c.if-s-at.true)
 
-returns-2 : tie.Need-returns-2
+returns-2 : tie.Need-returns-then-b-lt48
 unfolding one_or_two
-returns-2 c = rw (here _ _ c.before.before.if1.false, lt-leb _ _ c.if2.true)
+returns-2 c = rw (here _ _ c.if-s-at.false, lt-leb _ _ c.if-b-lt48.true)
 
-returns-3 : tie.Need-returns-3
+returns-3 : tie.Need-returns-then-b-gt57
 unfolding one_or_two
 returns-3 c =
-    rw (here _ _ c.before.before.before.if1.false, le-leb _ _ c.before.if2.false, lt-leb _ _ c.if3.true)
+    rw (here _ _ c.if-s-at.false, le-leb _ _ c.if-b-lt48.false, lt-leb _ _ c.if-b-gt57.true)
 
-returns-4 : tie.Need-returns-4
+returns-4 : tie.Need-returns
 unfolding one_or_two
 returns-4 c =
-    rw (c.second-digit.ensures, here _ _ c.before.before.before.before.if1.false, le-leb _ _ c.before.before.if2.false, le-leb _ _ c.before.if3.false)
+    rw (c.second_digit.ensures, here _ _ c.if-s-at.false, le-leb _ _ c.if-b-lt48.false, le-leb _ _ c.if-b-gt57.false)
 
-pub one-or-two-spec : {M : Type 1} → statement M
-one-or-two-spec =
+pub one_or_two_spec : {M : Type 1} → statement M
+one_or_two_spec =
     tie.close
     (tie.spec
     returns

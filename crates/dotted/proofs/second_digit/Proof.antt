@@ -8,25 +8,25 @@ use Rattle.rules.proofs.Shared.Rests.{here, past}
 use Rattle.dotted.proofs.second_digit.Statement.{statement}
 use Rattle.dotted.proofs.second_digit.Tie as tie
 
-returns : tie.Need-returns
+returns : tie.Need-returns-then-s-at
 unfolding second_digit
-returns c = rw (past _ _ c.if1.true)
+returns c = rw (past _ _ c.if-s-at.true)
 
-returns-2 : tie.Need-returns-2
+returns-2 : tie.Need-returns-then-b-lt48
 unfolding second_digit
-returns-2 c = rw (here _ _ c.before.before.if1.false, lt-leb _ _ c.if2.true)
+returns-2 c = rw (here _ _ c.if-s-at.false, lt-leb _ _ c.if-b-lt48.true)
 
-returns-3 : tie.Need-returns-3
+returns-3 : tie.Need-returns-then-b-gt57
 unfolding second_digit
 returns-3 c =
-    rw (here _ _ c.before.before.before.if1.false, le-leb _ _ c.before.if2.false, lt-leb _ _ c.if3.true)
+    rw (here _ _ c.if-s-at.false, le-leb _ _ c.if-b-lt48.false, lt-leb _ _ c.if-b-gt57.true)
 
-returns-4 : tie.Need-returns-4
+returns-4 : tie.Need-returns
 unfolding second_digit
 returns-4 c =
-    rw (here _ _ c.before.before.before.if1.false, le-leb _ _ c.before.if2.false, le-leb _ _ c.if3.false) refl
+    rw (here _ _ c.if-s-at.false, le-leb _ _ c.if-b-lt48.false, le-leb _ _ c.if-b-gt57.false) refl
 
-pub second-digit-spec : {M : Type 1} → statement M
-second-digit-spec =
+pub second_digit_spec : {M : Type 1} → statement M
+second_digit_spec =
     tie.close
     (tie.spec returns (λ c. search rules) returns-2 returns-3 (λ c. search rules) (λ c. search rules) (λ c. search rules) returns-4)

@@ -9,20 +9,20 @@ use borrow.Author.Rules.{rules}
 use Rattle.frame.proofs.new.Statement.{statement}
 use Rattle.frame.proofs.new.Tie as tie
 
-returns : tie.Need-returns
-returns c = new-kept c.before.before.args.version c.before.before.args.b.now c.if1.true
+returns : tie.Need-returns-then-b-lt-HEAD_SIZE
+returns c = new-kept c.args.version c.args.b.now c.if-b-lt-HEAD_SIZE.true
 
-put-length-requires : tie.Need-put-length-requires
-put-length-requires c κs = (simp length-set (omega arith), lit< tt)
+put_length-requires : tie.Need-put_length-requires
+put_length-requires c κs = (simp length-set (omega arith), lit< tt)
 
-same_length : tie.Need-same-length
-same_length c = rw (c.before.before.put-length.ensures, length-sets, length-set)
+same_length : tie.Need-shape_of-b
+same_length c = rw (c.put_length.ensures, length-sets, length-set)
 
-returns-2 : tie.Need-returns-2
+returns-2 : tie.Need-returns
 returns-2 c =
-    let s = c.before.before.before.before.before.before.args.b.now in
-    let room = c.before.before.before.before.if1.false in
-    (new-given s room, c.before.before.put-length.ensures ∙ new-stores c.before.before.before.before.before.before.args.version s room)
+    let s = c.args.b.now in
+    let room = c.if-b-lt-HEAD_SIZE.false in
+    (new-given s room, c.put_length.ensures ∙ new-stores c.args.version s room)
 
 pub new_spec : {M : Type 1} → statement M
-new_spec = tie.close (tie.spec returns (λ c. search rules) put-length-requires same_length returns-2)
+new_spec = tie.close (tie.spec returns (λ c. search rules) put_length-requires same_length returns-2)

@@ -11,57 +11,57 @@ use Rattle.frame.proofs.Counts.{counted-by}
 use Rattle.frame.proofs.pieces_in.Statement.{statement}
 use Rattle.frame.proofs.pieces_in.Tie as tie
 
-returns : tie.Need-returns
+returns : tie.Need-returns-then-b-lt-HEAD_SIZE
 returns c =
-    let a = c.before.before.args in
+    let a = c.args in
     let s = a.b.now in
     let frame = frame_of a.size a.most a.version in
-    sym (counted-by frame s (short frame s c.if1.true))
+    sym (counted-by frame s (short frame s c.if-b-lt-HEAD_SIZE.true))
 
-returns-2 : tie.Need-returns-2
+returns-2 : tie.Need-returns-then-said-lt1
 returns-2 c =
-    let a = c.before.before.before.before.args in
+    let a = c.args in
     let s = a.b.now in
     let frame = frame_of a.size a.most a.version in
-    sym (counted-by frame s (none_said frame s c.before.length-said.ensures (omega arith) (omega arith)))
+    sym (counted-by frame s (none_said frame s c.length_said-said.ensures (omega arith) (omega arith)))
 
-returns-3 : tie.Need-returns-3
+returns-3 : tie.Need-returns-then-most-size
 returns-3 c =
-    let a = c.before.before.before.before.before.args in
+    let a = c.args in
     let s = a.b.now in
     let frame = frame_of a.size a.most a.version in
-    sym (counted-by frame s (over frame s c.before.before.length-said.ensures (omega arith) (omega arith) (omega arith)))
+    sym (counted-by frame s (over frame s c.length_said-said.ensures (omega arith) (omega arith) (omega arith)))
 
-returns-4 : tie.Need-returns-4
+returns-4 : tie.Need-returns-then-b-said
 returns-4 c =
-    let a = c.before.before.before.before.before.before.args in
+    let a = c.args in
     let s = a.b.now in
     let frame = frame_of a.size a.most a.version in
-    sym (counted-by frame s (past_end frame s c.before.before.before.length-said.ensures (omega arith) (omega arith) (omega arith) (omega arith)))
+    sym (counted-by frame s (past_end frame s c.length_said-said.ensures (omega arith) (omega arith) (omega arith) (omega arith)))
 
-returns-5 : tie.Need-returns-5
+returns-5 : tie.Need-returns-then-b-version
 returns-5 c =
-    let a = c.before.before.before.before.before.before.before.before.args in
+    let a = c.args in
     let s = a.b.now in
     let frame = frame_of a.size a.most a.version in
-    sym (counted-by frame s (version-not frame s c.before.before.before.before.before.length-said.ensures (omega arith) (omega arith) (omega arith) (omega arith) c.if5.true))
+    sym (counted-by frame s (version-not frame s c.length_said-said.ensures (omega arith) (omega arith) (omega arith) (omega arith) c.if-b-version.true))
 
-returns-6 : tie.Need-returns-6
+returns-6 : tie.Need-returns-then-said-size-ne0
 returns-6 c =
-    let a = c.before.before.before.before.before.before.before.before.before.args in
+    let a = c.args in
     let s = a.b.now in
     let frame = frame_of a.size a.most a.version in
-    sym (counted-by frame s (uneven frame s c.before.before.before.before.before.before.length-said.ensures (omega arith) (omega arith) (omega arith) (omega arith) (omega arith) c.if6.true))
+    sym (counted-by frame s (uneven frame s c.length_said-said.ensures (omega arith) (omega arith) (omega arith) (omega arith) (omega arith) c.if-said-size-ne0.true))
 
-returns-7 : tie.Need-returns-7
+returns-7 : tie.Need-returns
 returns-7 c =
-    let a = c.before.before.before.before.before.before.before.before.before.args in
+    let a = c.args in
     let s = a.b.now in
     let frame = frame_of a.size a.most a.version in
-    sym (counted-by frame s (cut_up frame s c.before.before.before.before.before.before.length-said.ensures (omega arith) (omega arith) (omega arith) (omega arith) (omega arith) (omega arith)) ∙ ap Gives (piece-count _ a.size (drop 5 s)))
+    sym (counted-by frame s (cut_up frame s c.length_said-said.ensures (omega arith) (omega arith) (omega arith) (omega arith) (omega arith) (omega arith)) ∙ ap Gives (piece-count _ a.size (drop 5 s)))
 
-pub pieces-in-spec : {M : Type 1} → statement M
-pieces-in-spec =
+pub pieces_in_spec : {M : Type 1} → statement M
+pieces_in_spec =
     tie.close
     (tie.spec
     returns

@@ -9,8 +9,8 @@ use Rattle.frame.proofs.put_length.Tie as tie
 returns : tie.Need-returns
 returns c = rw (four-bytes-of _ c.requires.1)
 
-pub put-length-spec : {M : Type 1} → statement M
-put-length-spec =
+pub put_length_spec : {M : Type 1} → statement M
+put_length_spec =
     tie.close
     (tie.spec
     (λ c. search rules)

@@ -1,6 +1,6 @@
 -- The earliest and the latest date of some are among them, and none is earlier or later. Once, over the order; "year, then packed word" is
 -- such an order, either way round. Assumes nothing.
-use mathlib.Core.Path.{◌≡◌, refl, ap, subst}
+use mathlib.Core.Path.{◌≡◌, refl, ap, sym, subst}
 use mathlib.Core.Bool.{Bool, true, false, cond}
 use mathlib.Core.List.{List, [], ◌∷◌}
 use Prim.Native.Nat.{◌+◌, ◌≤◌}
@@ -29,7 +29,7 @@ module _ (by : Fields → Fields → Order) where
   first-has : (P : Fields → Type 0) (f : Fields) (fs : List Fields) → P f → Each P fs → P (first_by f fs)
   unfolding first_by
   first-has P f [] p h = p
-  first-has P f (g ∷ gs) p h = first-has P _ gs (one (by f g)) h.1
+  first-has P f (g ∷ gs) p h = first-has P (chosen (by f g) f g) gs (one (by f g)) h.1
     where
       one : (o : Order) → P (chosen o f g)
       one Before = p
@@ -130,8 +130,11 @@ pub latest-has : (P : Fields → Type 0) (f : Fields) (fs : List Fields) → P f
 latest-has P f fs p h = rw (latest-is f fs) (first-has (λ g h. order h g) P f fs p h)
 
 pub none-earlier : (f : Fields) (fs : List Fields) → Each (λ g. not_after (order (earliest f fs) g) ≡ true) (f ∷ fs)
-none-earlier f fs = rw (earliest-is f fs) (first-none order order-through order-turned f fs)
+none-earlier f fs =
+    subst (λ (m : Fields). Each (λ g. not_after (order m g) ≡ true) (f ∷ fs)) (sym (earliest-is f fs))
+    (first-none order order-through order-turned f fs)
 
 pub none-later : (f : Fields) (fs : List Fields) → Each (λ g. not_after (order g (latest f fs)) ≡ true) (f ∷ fs)
 none-later f fs =
-    rw (latest-is f fs) (first-none (λ g h. order h g) (λ a b c p q. order-through c b a q p) (λ a b e. order-turned b a e) f fs)
+    subst (λ (m : Fields). Each (λ g. not_after (order g m) ≡ true) (f ∷ fs)) (sym (latest-is f fs))
+    (first-none (λ g h. order h g) (λ a b c p q. order-through c b a q p) (λ a b e. order-turned b a e) f fs)

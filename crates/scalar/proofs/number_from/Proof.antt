@@ -18,30 +18,30 @@ use Rattle.scalar.proofs.number_from.Tie as tie
 given : {y z : ℤ} (s : List ℕ) → y ≡ z → ◌≡◌ {A = Answer (Read ℤ)} (Gives (record { value = y; rest = s })) (Gives (record { value = z; rest = s }))
 given s e = λ i. Gives (record { value = e i; rest = s })
 
-returns : tie.Need-returns
+returns : tie.Need-returns-in_default
 unfolding number_of
-returns c = (rw (← c.before.before.to-u64-partial.ensures.0, c.enum_told.given.1), zero-le)
+returns c = (rw (← c.to_u64_partial.ensures.0, c.in_default.is), zero-le)
 
 int64-requires : tie.Need-int64-requires
 int64-requires c κs =
-    omega (arith, ap value_of c.before.before.value.given.1, c.before.before.before.before.to-u64-partial.ensures.1.1)
+    omega (arith, ap value_of c.in-Value.is, c.to_u64_partial.ensures.1.1)
 
-returns-2 : tie.Need-returns-2
+returns-2 : tie.Need-returns-then-negative
 unfolding number_of
 returns-2 c =
-    (rw (c.before.if1.true, ← c.before.before.before.before.before.to-u64-partial.ensures.0, c.before.before.before.value.given.1) (given _ (held w64 c.int64.type-inv ∙ c.int64.ensures ∙ sub-below c.before.before.before.value.given.0.0)), omega (arith, ap place_of c.before.before.before.value.given.1, c.before.before.before.before.before.to-u64-partial.ensures.1.0))
+    (rw (c.if-negative.true, ← c.to_u64_partial.ensures.0, c.in-Value.is) (given _ (held w64 c.int64.type_inv ∙ c.int64.ensures ∙ sub-below c.in-Value.value)), omega (arith, ap place_of c.in-Value.is, c.to_u64_partial.ensures.1.0))
 
 int64-requires-2 : tie.Need-int64-requires-2
 int64-requires-2 c κs =
-    omega (arith, ap value_of c.before.before.value.given.1, c.before.before.before.before.to-u64-partial.ensures.1.1)
+    omega (arith, ap value_of c.in-Value.is, c.to_u64_partial.ensures.1.1)
 
-returns-3 : tie.Need-returns-3
+returns-3 : tie.Need-returns
 unfolding number_of
 returns-3 c =
-    (rw (c.before.if1.false, ← c.before.before.before.before.before.to-u64-partial.ensures.0, c.before.before.before.value.given.1) (given _ (held w64 c.int642.type-inv ∙ c.int642.ensures ∙ sub-above c.before.before.before.value.given.0.0)), omega (arith, ap place_of c.before.before.before.value.given.1, c.before.before.before.before.before.to-u64-partial.ensures.1.0))
+    (rw (c.if-negative.false, ← c.to_u64_partial.ensures.0, c.in-Value.is) (given _ (held w64 c.int64-2.type_inv ∙ c.int64-2.ensures ∙ sub-above c.in-Value.value)), omega (arith, ap place_of c.in-Value.is, c.to_u64_partial.ensures.1.0))
 
-pub number-from-spec : {M : Type 1} → statement M
-number-from-spec =
+pub number_from_spec : {M : Type 1} → statement M
+number_from_spec =
     tie.close
     (tie.spec
     (λ c κs. search rules)

@@ -8,31 +8,31 @@ use Rattle.scalar.proofs.Laws.{leads_empty, leads-minus, leads-plus, leads-digit
 use Rattle.scalar.proofs.to_i64_t.Statement.{statement}
 use Rattle.scalar.proofs.to_i64_t.Tie as tie
 
-returns : tie.Need-returns
-returns c = (sym (leads_empty _ c.if1.true), zero-le)
+returns : tie.Need-returns-then-s-eq0
+returns c = (sym (leads_empty _ c.if-s-eq0.true), zero-le)
 
-returns-2 : tie.Need-returns-2
+returns-2 : tie.Need-returns-then-b-eq45
 returns-2 c =
-    (c.number-from.ensures.0 ∙ sym (leads-minus c.before.before.before.before.before.args.s.now (omega arith) c.before.if2.true), c.number-from.ensures.1)
+    (c.number_from.ensures.0 ∙ sym (leads-minus c.args.s.now (omega arith) c.if-b-eq45.true), c.number_from.ensures.1)
 
-returns-3 : tie.Need-returns-3
+returns-3 : tie.Need-returns-then-b-eq43
 returns-3 c =
-    (c.number-from2.ensures.0 ∙ sym (leads-plus c.before.before.before.before.before.before.args.s.now (omega arith) c.before.before.if2.false c.before.if3.true), c.number-from2.ensures.1)
+    (c.number_from-then-b-eq43.ensures.0 ∙ sym (leads-plus c.args.s.now (omega arith) c.if-b-eq45.false c.if-b-eq43.true), c.number_from-then-b-eq43.ensures.1)
 
-returns-4 : tie.Need-returns-4
+returns-4 : tie.Need-returns-then-b-lt48
 returns-4 c =
-    (sym (leads-none c.before.before.before.before.before.before.args.s.now (omega arith) c.before.before.if2.false c.before.if3.false (rw (lt-leb _ _ c.if4.true))), zero-le)
+    (sym (leads-none c.args.s.now (omega arith) c.if-b-eq45.false c.if-b-eq43.false (rw (lt-leb _ _ c.if-b-lt48.true))), zero-le)
 
-returns-5 : tie.Need-returns-5
+returns-5 : tie.Need-returns-then-b-gt57
 returns-5 c =
-    (sym (leads-none c.before.before.before.before.before.before.before.args.s.now (omega arith) c.before.before.before.if2.false c.before.before.if3.false (rw (le-leb _ _ c.before.if4.false, lt-leb _ _ c.if5.true))), zero-le)
+    (sym (leads-none c.args.s.now (omega arith) c.if-b-eq45.false c.if-b-eq43.false (rw (le-leb _ _ c.if-b-lt48.false, lt-leb _ _ c.if-b-gt57.true))), zero-le)
 
-returns-6 : tie.Need-returns-6
+returns-6 : tie.Need-returns
 returns-6 c =
-    (c.number-from3.ensures.0 ∙ sym (leads-digit c.before.before.before.before.before.before.before.before.args.s.now (omega arith) c.before.before.before.before.if2.false c.before.before.before.if3.false c.before.before.if4.false c.before.if5.false), c.number-from3.ensures.1)
+    (c.number_from-2.ensures.0 ∙ sym (leads-digit c.args.s.now (omega arith) c.if-b-eq45.false c.if-b-eq43.false c.if-b-lt48.false c.if-b-gt57.false), c.number_from-2.ensures.1)
 
-pub to-i64-t-spec : {M : Type 1} → statement M
-to-i64-t-spec =
+pub to_i64_t_spec : {M : Type 1} → statement M
+to_i64_t_spec =
     tie.close
     (tie.spec
     returns

@@ -10,42 +10,42 @@ use Rattle.scalar.proofs.Laws.{goes_on, stops-low, stops-high, stops_end, too_la
 use Rattle.scalar.proofs.to_u64_partial.Statement.{statement}
 use Rattle.scalar.proofs.to_u64_partial.Tie as tie
 
-abbrev invariant-loop : tie.invariant-loop
+abbrev invariant-loop : tie.invariant-loop-at
 invariant-loop s from start value₀ at₀ value at =
     (partial_of value (drop at s) ≡ partial_of start (drop from s)) × (value ≤ most63) × (at ≤ length s)
 
-abbrev decreases-loop : tie.decreases-loop
+abbrev decreases-loop : tie.decreases-loop-at
 decreases-loop s from start value₀ at₀ value at = length s - at
 
-loop-holds : tie.Need-loop-init invariant-loop decreases-loop
+loop-holds : tie.Need-loop-at-init invariant-loop decreases-loop
 loop-holds c = (refl, omega arith, omega arith)
 
-returns : tie.Need-returns invariant-loop decreases-loop
+returns : tie.Need-returns-then-b-lt48 invariant-loop decreases-loop
 returns c =
-    (sym (stops-low _ _ _ c.before.before.before.loop.invariant.1 c.before.before.loop-test.true c.if1.true) ∙ c.before.before.before.loop.invariant.0, (c.before.before.before.loop.invariant.2, c.before.before.before.loop.invariant.1))
+    (sym (stops-low _ _ _ c.loop-at.invariant.1 c.loop-at-test.true c.if-b-lt48.true) ∙ c.loop-at.invariant.0, (c.loop-at.invariant.2, c.loop-at.invariant.1))
 
-returns-2 : tie.Need-returns-2 invariant-loop decreases-loop
+returns-2 : tie.Need-returns-then-b-gt57 invariant-loop decreases-loop
 returns-2 c =
-    (sym (stops-high _ _ _ c.before.before.before.before.loop.invariant.1 c.before.before.before.loop-test.true c.before.if1.false c.if2.true) ∙ c.before.before.before.before.loop.invariant.0, (c.before.before.before.before.loop.invariant.2, c.before.before.before.before.loop.invariant.1))
+    (sym (stops-high _ _ _ c.loop-at.invariant.1 c.loop-at-test.true c.if-b-lt48.false c.if-b-gt57.true) ∙ c.loop-at.invariant.0, (c.loop-at.invariant.2, c.loop-at.invariant.1))
 
-returns-3 : tie.Need-returns-3 invariant-loop decreases-loop
+returns-3 : tie.Need-returns-then-value-gt-TENTH invariant-loop decreases-loop
 returns-3 c =
-    (sym (goes_on _ _ _ c.before.before.before.before.loop-test.true c.before.before.if1.false c.before.if2.false ∙ too_large _ _ (omega arith)) ∙ c.before.before.before.before.before.loop.invariant.0, (zero-le, zero-le))
+    (sym (goes_on _ _ _ c.loop-at-test.true c.if-b-lt48.false c.if-b-gt57.false ∙ too_large _ _ (omega arith)) ∙ c.loop-at.invariant.0, (zero-le, zero-le))
 
-returns-4 : tie.Need-returns-4 invariant-loop decreases-loop
+returns-4 : tie.Need-returns-then-value-gt-MOST invariant-loop decreases-loop
 returns-4 c =
-    (sym (goes_on _ _ _ c.before.before.before.before.before.loop-test.true c.before.before.before.if1.false c.before.before.if2.false ∙ too_large _ _ c.if4.true) ∙ c.before.before.before.before.before.before.loop.invariant.0, (zero-le, zero-le))
+    (sym (goes_on _ _ _ c.loop-at-test.true c.if-b-lt48.false c.if-b-gt57.false ∙ too_large _ _ c.if-value-gt-MOST.true) ∙ c.loop-at.invariant.0, (zero-le, zero-le))
 
-loop-again : tie.Need-loop-preserved invariant-loop decreases-loop
+loop-again : tie.Need-loop-at-preserved invariant-loop decreases-loop
 loop-again c =
-    (sym (goes_on _ _ _ c.before.before.before.before.before.loop-test.true c.before.before.before.if1.false c.before.before.if2.false) ∙ c.before.before.before.before.before.before.loop.invariant.0, omega arith, omega arith)
+    (sym (goes_on _ _ _ c.loop-at-test.true c.if-b-lt48.false c.if-b-gt57.false) ∙ c.loop-at.invariant.0, omega arith, omega arith)
 
-returns-5 : tie.Need-returns-5 invariant-loop decreases-loop
+returns-5 : tie.Need-returns invariant-loop decreases-loop
 returns-5 c =
-    (sym (stops_end _ _ _ c.before.loop.invariant.1 c.loop-test.false) ∙ c.before.loop.invariant.0, (c.before.loop.invariant.2, c.before.loop.invariant.1))
+    (sym (stops_end _ _ _ c.loop-at.invariant.1 c.loop-at-test.false) ∙ c.loop-at.invariant.0, (c.loop-at.invariant.2, c.loop-at.invariant.1))
 
-pub to-u64-partial-spec : {M : Type 1} → statement M
-to-u64-partial-spec =
+pub to_u64_partial_spec : {M : Type 1} → statement M
+to_u64_partial_spec =
     tie.close
     (tie.spec
     invariant-loop

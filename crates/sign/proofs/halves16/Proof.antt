@@ -6,11 +6,11 @@ use Rattle.sign.proofs.Bits.{Above, Below, above, below, as-nat, halves-below, h
 use Rattle.sign.proofs.halves16.Statement.{statement}
 use Rattle.sign.proofs.halves16.Tie as tie
 
-neg : (c : tie.Then-x-lt0) → Below w16 c.before.args.x
-neg c = below w16 _ c.before.ranges.x c.if-x-lt0.true
+neg : (c : tie.Then-x-lt0) → Below w16 c.args.x
+neg c = below w16 _ c.ranges.x c.if-x-lt0.true
 
-non : (c : tie.Else-x-lt0) → Above w16 c.before.args.x
-non c = above w16 _ c.before.ranges.x c.if-x-lt0.false
+non : (c : tie.Else-x-lt0) → Above w16 c.args.x
+non c = above w16 _ c.ranges.x c.if-x-lt0.false
 
 pub halves16_spec : {M : Type 1} → statement M
 halves16_spec =

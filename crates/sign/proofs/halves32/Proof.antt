@@ -6,11 +6,11 @@ use Rattle.sign.proofs.Bits.{Above, Below, above, below, as-nat, halves-below, h
 use Rattle.sign.proofs.halves32.Statement.{statement}
 use Rattle.sign.proofs.halves32.Tie as tie
 
-neg : (c : tie.Then-x-lt0) → Below w32 c.before.args.x
-neg c = below w32 _ c.before.ranges.x c.if-x-lt0.true
+neg : (c : tie.Then-x-lt0) → Below w32 c.args.x
+neg c = below w32 _ c.ranges.x c.if-x-lt0.true
 
-non : (c : tie.Else-x-lt0) → Above w32 c.before.args.x
-non c = above w32 _ c.before.ranges.x c.if-x-lt0.false
+non : (c : tie.Else-x-lt0) → Above w32 c.args.x
+non c = above w32 _ c.ranges.x c.if-x-lt0.false
 
 pub halves32_spec : {M : Type 1} → statement M
 halves32_spec =

@@ -14,5 +14,5 @@ int32_spec =
     (λ c. search rules)
     (λ c. search rules)
     (λ c. search rules)
-    (λ c. let a = c.before.args in int-below w32 a.u a.d (omega arith) (omega arith))
-    (λ c. let a = c.before.args in int-above w32 a.u a.d (omega arith) (omega arith)))
+    (λ c. let a = c.args in int-below w32 a.u a.d (omega arith) (omega arith))
+    (λ c. let a = c.args in int-above w32 a.u a.d (omega arith) (omega arith)))

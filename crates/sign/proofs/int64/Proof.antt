@@ -14,5 +14,5 @@ int64_spec =
     (λ c. search rules)
     (λ c. search rules)
     (λ c. search rules)
-    (λ c. let a = c.before.args in int-below w64 a.u a.d (omega arith) (omega arith))
-    (λ c. let a = c.before.args in int-above w64 a.u a.d (omega arith) (omega arith)))
+    (λ c. let a = c.args in int-below w64 a.u a.d (omega arith) (omega arith))
+    (λ c. let a = c.args in int-above w64 a.u a.d (omega arith) (omega arith)))

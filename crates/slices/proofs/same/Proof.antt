@@ -9,32 +9,32 @@ use Rattle.slices.proofs.Laws.{other_length, same-on, differ-at, same_over}
 use Rattle.slices.proofs.same.Statement.{statement}
 use Rattle.slices.proofs.same.Tie as tie
 
-abbrev invariant-loop : tie.invariant-loop
+abbrev invariant-loop : tie.invariant-loop-i
 invariant-loop a b i₀ i = (same_bytes (drop i a) (drop i b) ≡ same_bytes a b) × (i ≤ length a)
 
-abbrev decreases-loop : tie.decreases-loop
+abbrev decreases-loop : tie.decreases-loop-i
 decreases-loop a b i₀ i = length a - i
 
-returns : tie.Need-returns invariant-loop decreases-loop
-returns c = sym (other_length _ _ c.if1.true)
+returns : tie.Need-returns-then-a-b invariant-loop decreases-loop
+returns c = sym (other_length _ _ c.if-a-b.true)
 
-loop-holds : tie.Need-loop-init invariant-loop decreases-loop
+loop-holds : tie.Need-loop-i-init invariant-loop decreases-loop
 loop-holds c = (refl, omega arith)
 
-shared-slice-read-if2-2 : tie.Need-shared-slice-read-if2-2 invariant-loop decreases-loop
-shared-slice-read-if2-2 c = omega (arith, c.before.before.before.before.if1.false)
+shared_slice_read-if2-2 : tie.Need-bounds-b-i invariant-loop decreases-loop
+shared_slice_read-if2-2 c = omega (arith, c.if-a-b.false)
 
-returns-2 : tie.Need-returns-2 invariant-loop decreases-loop
+returns-2 : tie.Need-returns-then-a-i invariant-loop decreases-loop
 returns-2 c =
-    sym (differ-at _ _ _ c.before.before.before.loop-test.true (omega (arith, c.before.before.before.before.before.if1.false)) c.if2.true) ∙ c.before.before.before.before.loop.invariant.0
+    sym (differ-at _ _ _ c.loop-i-test.true (omega (arith, c.if-a-b.false)) c.if-a-i.true) ∙ c.loop-i.invariant.0
 
-loop-again : tie.Need-loop-preserved invariant-loop decreases-loop
+loop-again : tie.Need-loop-i-preserved invariant-loop decreases-loop
 loop-again c =
-    (sym (same-on _ _ _ c.before.before.before.loop-test.true (omega (arith, c.before.before.before.before.before.if1.false)) c.if2.false) ∙ c.before.before.before.before.loop.invariant.0, omega arith)
+    (sym (same-on _ _ _ c.loop-i-test.true (omega (arith, c.if-a-b.false)) c.if-a-i.false) ∙ c.loop-i.invariant.0, omega arith)
 
-returns-3 : tie.Need-returns-3 invariant-loop decreases-loop
+returns-3 : tie.Need-returns invariant-loop decreases-loop
 returns-3 c =
-    sym (same_over _ _ _ c.loop-test.false (omega (arith, c.before.before.if1.false))) ∙ c.before.loop.invariant.0
+    sym (same_over _ _ _ c.loop-i-test.false (omega (arith, c.if-a-b.false))) ∙ c.loop-i.invariant.0
 
 pub same_spec : {M : Type 1} → statement M
 same_spec =
@@ -45,7 +45,7 @@ same_spec =
     returns
     loop-holds
     (λ c. search rules)
-    shared-slice-read-if2-2
+    shared_slice_read-if2-2
     returns-2
     (λ c. search rules)
     (λ c. search rules)

@@ -15,8 +15,8 @@ returns c =
     ∙ bytes_word bytes
     (f.a.fits, (f.b.fits, (f.c.fits, (f.d.fits, (f.e.fits, (f.f.fits, (f.g.fits, (f.h.fits, tt))))))))
 
-pub from-le-bytes-spec : {M : Type 1} → statement M
-from-le-bytes-spec =
+pub from_le_bytes_spec : {M : Type 1} → statement M
+from_le_bytes_spec =
     tie.close
     (tie.spec
     (λ c κs. search rules)

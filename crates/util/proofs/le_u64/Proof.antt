@@ -9,8 +9,8 @@ returns c =
     let start = c.before.before.before.before.before.before.before.before.before.before in
     rw (listed-is 8 start.args.s.now 0 start.requires) c.from_le_bytes.ensures
 
-pub le-u64-spec : {M : Type 1} → statement M
-le-u64-spec =
+pub le_u64_spec : {M : Type 1} → statement M
+le_u64_spec =
     tie.close
     (tie.spec
     (λ c. search rules)

@@ -4,8 +4,8 @@ use Rattle.util.proofs.Value.{bounds, value-is}
 use Rattle.util.proofs.value_of.Statement.{statement}
 use Rattle.util.proofs.value_of.Tie as tie
 
-pub value-of-spec : {M : Type 1} → statement M
-value-of-spec =
+pub value_of_spec : {M : Type 1} → statement M
+value_of_spec =
     tie.close
     (tie.spec
     (λ c. omega (arith, bounds c.args.word))

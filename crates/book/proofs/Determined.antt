@@ -24,12 +24,12 @@ back_book value length version other bad (RefusedAt n place) = bad place
 pub checked-determined : Determines checked_as
 checked-determined =
     determined checked_as (back_book C.Records C.BadLength C.BadVersion (λ n. C.BadVersion) C.BadRecord)
-    (λ r. elim r [ C.Records n ↦ refl | C.BadLength ↦ refl | C.BadVersion ↦ refl | C.BadRecord place ↦ refl ])
+    (λ r. elim r as (λ k. (back_book C.Records C.BadLength C.BadVersion (λ n. C.BadVersion) C.BadRecord) (checked_as k) ≡ k) [ C.Records n ↦ refl | C.BadLength ↦ refl | C.BadVersion ↦ refl | C.BadRecord place ↦ refl ])
 
 pub appended-determined : Determines appended_as
 appended-determined =
     determined appended_as (back_book A.At A.BadLength A.BadVersion (λ n. cond (eqb n not_of_kind) A.NotOfKind (cond (eqb n no_room) A.NoRoom A.GuessedDate)) A.BadRecord)
-    (λ r. elim r [ A.At n ↦ refl | A.NotOfKind ↦ refl | A.BadLength ↦ refl | A.BadVersion ↦ refl | A.BadRecord place ↦ refl | A.NoRoom ↦ refl | A.GuessedDate ↦ refl ])
+    (λ r. elim r as (λ k. (back_book A.At A.BadLength A.BadVersion (λ n. cond (eqb n not_of_kind) A.NotOfKind (cond (eqb n no_room) A.NoRoom A.GuessedDate)) A.BadRecord) (appended_as k) ≡ k) [ A.At n ↦ refl | A.NotOfKind ↦ refl | A.BadLength ↦ refl | A.BadVersion ↦ refl | A.BadRecord place ↦ refl | A.NoRoom ↦ refl | A.GuessedDate ↦ refl ])
 
 -- ---- a record found, by its kind, its field number and its bits
 

@@ -1,6 +1,6 @@
 -- A move's answer is determined: two that a contract allows are equal, since the view that the contract names can be read back.
 -- Assumes nothing.
-use mathlib.Core.Path.{refl}
+use mathlib.Core.Path.{◌≡◌, refl}
 use mathlib.Core.Bool.{cond}
 use Prim.Native.Nat.{ℕ}
 use lib.Dec.{eqb}
@@ -18,4 +18,4 @@ back (RefusedAt n place) = cond (eqb n bad_record) (M.BadRecord place) (M.FieldO
 pub moved-determined : Determines moved_as
 moved-determined =
     determined moved_as back
-    (λ r. elim r [ M.Records n ↦ refl | M.BadLength ↦ refl | M.BadVersion ↦ refl | M.BadRecord place ↦ refl | M.FieldOrMark place ↦ refl | M.NoRoom ↦ refl ])
+    (λ r. elim r as (λ k. back (moved_as k) ≡ k) [ M.Records n ↦ refl | M.BadLength ↦ refl | M.BadVersion ↦ refl | M.BadRecord place ↦ refl | M.FieldOrMark place ↦ refl | M.NoRoom ↦ refl ])

@@ -10,7 +10,7 @@ use Rattle.codes.specs.Views.{lettered_as, coded_as}
 
 pub lettered-determined : Determines lettered_as
 lettered-determined =
-    determined lettered_as (back_one (λ (k : K.Kind). L.Kind (kind_back k)) L.None) (λ r. elim r [ L.Kind k ↦ ap L.Kind (kind-back k) | L.None ↦ refl ])
+    determined lettered_as (back_one (λ (k : K.Kind). L.Kind (kind_back k)) L.None) (λ r. elim r as (λ k. (back_one (λ (k : K.Kind). L.Kind (kind_back k)) L.None) (lettered_as k) ≡ k) [ L.Kind k ↦ ap L.Kind (kind-back k) | L.None ↦ refl ])
 
 pub coded-determined : Determines coded_as
-coded-determined = determined coded_as (back_one (λ (k : K.Kind). C.Kind (kind_back k)) C.None) (λ r. elim r [ C.Kind k ↦ ap C.Kind (kind-back k) | C.None ↦ refl ])
+coded-determined = determined coded_as (back_one (λ (k : K.Kind). C.Kind (kind_back k)) C.None) (λ r. elim r as (λ k. (back_one (λ (k : K.Kind). C.Kind (kind_back k)) C.None) (coded_as k) ≡ k) [ C.Kind k ↦ ap C.Kind (kind-back k) | C.None ↦ refl ])

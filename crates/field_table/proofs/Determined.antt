@@ -28,12 +28,12 @@ back_table value length version entry other (RefusedAt n place) = length
 pub checked-determined : Determines checked_as
 checked-determined =
     determined checked_as (back_table C.Entries C.BadLength C.BadVersion C.BadEntry (λ n. C.BadEntry))
-    (λ r. elim r [ C.Entries n ↦ refl | C.BadLength ↦ refl | C.BadVersion ↦ refl | C.BadEntry ↦ refl ])
+    (λ r. elim r as (λ k. (back_table C.Entries C.BadLength C.BadVersion C.BadEntry (λ n. C.BadEntry)) (checked_as k) ≡ k) [ C.Entries n ↦ refl | C.BadLength ↦ refl | C.BadVersion ↦ refl | C.BadEntry ↦ refl ])
 
 pub changed-determined : Determines changed_as
 changed-determined =
     determined changed_as (back_table G.Entries G.BadLength G.BadVersion G.BadEntry (λ n. cond (eqb n T.table_full) G.Full G.NotThere))
-    (λ r. elim r [ G.Entries n ↦ refl | G.BadLength ↦ refl | G.BadVersion ↦ refl | G.BadEntry ↦ refl | G.Full ↦ refl | G.NotThere ↦ refl ])
+    (λ r. elim r as (λ k. (back_table G.Entries G.BadLength G.BadVersion G.BadEntry (λ n. cond (eqb n T.table_full) G.Full G.NotThere)) (changed_as k) ≡ k) [ G.Entries n ↦ refl | G.BadLength ↦ refl | G.BadVersion ↦ refl | G.BadEntry ↦ refl | G.Full ↦ refl | G.NotThere ↦ refl ])
 
 -- ---- an entry and a lookup, by their kinds
 

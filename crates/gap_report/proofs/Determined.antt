@@ -1,6 +1,6 @@
 -- A report's answer is determined: two that a contract allows are equal, since the view that the contract names can be read back.
 -- Assumes nothing.
-use mathlib.Core.Path.{refl}
+use mathlib.Core.Path.{◌≡◌, refl}
 use mathlib.Core.Bool.{cond}
 use Prim.Native.Nat.{ℕ}
 use lib.Dec.{eqb}
@@ -18,4 +18,4 @@ back (RefusedAt n place) = R.BadRecord place
 pub reported-determined : Determines reported_as
 reported-determined =
     determined reported_as back
-    (λ r. elim r [ R.Length n ↦ refl | R.BadLength ↦ refl | R.BadVersion ↦ refl | R.BadRecord place ↦ refl | R.Short ↦ refl ])
+    (λ r. elim r as (λ k. back (reported_as k) ≡ k) [ R.Length n ↦ refl | R.BadLength ↦ refl | R.BadVersion ↦ refl | R.BadRecord place ↦ refl | R.Short ↦ refl ])

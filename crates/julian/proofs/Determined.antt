@@ -7,7 +7,7 @@ use Rattle.julian.specs.declared.FirstDay.TheVariants.{Day, NoMonth}
 use Rattle.julian.specs.First.{first_day_as}
 
 pub answer-determined : Determines first_day_as
-answer-determined = determined first_day_as (back_one Day NoMonth) (λ r. elim r [ Day d ↦ refl | NoMonth ↦ refl ])
+answer-determined = determined first_day_as (back_one Day NoMonth) (λ r. elim r as (λ k. (back_one Day NoMonth) (first_day_as k) ≡ k) [ Day d ↦ refl | NoMonth ↦ refl ])
 
 -- the contract has an equation for each field
 pub month-day-determined : (r s : MonthDay) (m d : ℕ) → (r.month ≡ m) × (r.day ≡ d) → (s.month ≡ m) × (s.day ≡ d) → r ≡ s

@@ -37,14 +37,14 @@ pub kind-back : (k : Kind) → kind_back (kind_of k) ≡ k
 kind-back k = elim k [ C.Raw ↦ refl | C.Date ↦ refl | C.Hour ↦ refl | C.Uniform ↦ refl | C.Eu5 ↦ refl | C.Vic3 ↦ refl ]
 
 pub answer-determined : (n : ℕ) → Determines (made_as n)
-answer-determined n = determined (made_as n) (back_one (λ d. M.Date (packed_of d)) M.None) (λ r. elim r [ M.Date d ↦ refl | M.None ↦ refl ])
+answer-determined n = determined (made_as n) (back_one (λ d. M.Date (packed_of d)) M.None) (λ r. elim r as (λ k. (back_one (λ d. M.Date (packed_of d)) M.None) ((made_as n) k) ≡ k) [ M.Date d ↦ refl | M.None ↦ refl ])
 
 pub answers-determined : DeterminesEach made_as
 answers-determined = determined-at made_as not_of_kind (answer-determined not_of_kind)
 
 pub opened-determined : Determines opened_as
 opened-determined = determined opened_as (back_one (λ f. O.Fields (expanded_of f)) O.NotOfKind)
-    (λ r. elim r [ O.Fields f ↦ refl | O.NotOfKind ↦ refl ])
+    (λ r. elim r as (λ k. (back_one (λ f. O.Fields (expanded_of f)) O.NotOfKind) (opened_as k) ≡ k) [ O.Fields f ↦ refl | O.NotOfKind ↦ refl ])
 
 abbrev order_back : D.Order → Ordered
 order_back D.Before = R.Before
@@ -53,4 +53,4 @@ order_back D.After = R.After
 
 pub ordered-determined : Determines ordered_as
 ordered-determined = determined ordered_as (back_one order_back R.NotOfKind)
-    (λ r. elim r [ R.Before ↦ refl | R.Same ↦ refl | R.After ↦ refl | R.NotOfKind ↦ refl ])
+    (λ r. elim r as (λ k. (back_one order_back R.NotOfKind) (ordered_as k) ≡ k) [ R.Before ↦ refl | R.Same ↦ refl | R.After ↦ refl | R.NotOfKind ↦ refl ])

@@ -35,7 +35,7 @@ pub asks-determined : (s : List ℕ) → Determines (request_as s)
 asks-determined s = determined (request_as s) request_back (request-back s)
 
 pub numeral-determined : Determines numeral_as
-numeral-determined = determined numeral_as (back_one N.Value N.None) (λ r. elim r [ N.Value n ↦ refl | N.None ↦ refl ])
+numeral-determined = determined numeral_as (back_one N.Value N.None) (λ r. elim r as (λ k. (back_one N.Value N.None) (numeral_as k) ≡ k) [ N.Value n ↦ refl | N.None ↦ refl ])
 
 pub asked-determined : Determines asked_as
-asked-determined = determined asked_as (back_by (λ d. A.Date (packed_of d)) A.Refused) (λ r. elim r [ A.Date d ↦ refl | A.Refused n ↦ refl ])
+asked-determined = determined asked_as (back_by (λ d. A.Date (packed_of d)) A.Refused) (λ r. elim r as (λ k. (back_by (λ d. A.Date (packed_of d)) A.Refused) (asked_as k) ≡ k) [ A.Date d ↦ refl | A.Refused n ↦ refl ])

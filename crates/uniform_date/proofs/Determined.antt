@@ -1,6 +1,6 @@
 -- Each answer is determined: two that a contract allows are equal, since the view that the contract names can be read back.
 -- Assumes nothing.
-use mathlib.Core.Path.{refl}
+use mathlib.Core.Path.{◌≡◌, refl}
 use Rattle.rules.specs.Kinds.{Stored}
 use Rattle.rules.proofs.OnRefusals.Determined.{Determines, determined, back_one, back_text}
 use Rattle.kinds.proofs.Determined.{packed_of}
@@ -16,8 +16,8 @@ pub bits-determined : Determines bits
 bits-determined = determined bits dated (λ d. refl)
 
 pub made-determined : Determines made_as
-made-determined = determined made_as (back_one (λ d. M.Date (dated d)) M.NotOfKind) (λ r. elim r [ M.Date d ↦ refl | M.NotOfKind ↦ refl ])
+made-determined = determined made_as (back_one (λ d. M.Date (dated d)) M.NotOfKind) (λ r. elim r as (λ k. (back_one (λ d. M.Date (dated d)) M.NotOfKind) (made_as k) ≡ k) [ M.Date d ↦ refl | M.NotOfKind ↦ refl ])
 
 pub parsed-determined : Determines parsed_as
 parsed-determined = determined parsed_as (back_text (λ d. P.Date (dated d)) P.TooLong P.NotText)
-    (λ r. elim r [ P.Date d ↦ refl | P.TooLong ↦ refl | P.NotText ↦ refl ])
+    (λ r. elim r as (λ k. (back_text (λ d. P.Date (dated d)) P.TooLong P.NotText) (parsed_as k) ≡ k) [ P.Date d ↦ refl | P.TooLong ↦ refl | P.NotText ↦ refl ])

@@ -26,7 +26,7 @@ pub const VERSION: u8 = 1;
 pub const PLAIN: bool = true;
 
 // The number of records, or why there is no book; of a bad record, the first one's place.
-#[derive(Drop)]
+#[derive(Clone, Copy)]
 pub enum Checked {
     Records(usize),
     BadLength,
@@ -35,7 +35,7 @@ pub enum Checked {
 }
 
 // The kind, the field number (0 for none, and in version 1) and the date of a record, or why there is none.
-#[derive(Drop)]
+#[derive(Clone, Copy)]
 pub enum Found {
     Record {
         kind: Kind,
@@ -49,7 +49,7 @@ pub enum Found {
 }
 
 // The place of a new record, or why it was not written.
-#[derive(Drop)]
+#[derive(Clone, Copy)]
 pub enum Appended {
     At(usize),
     NotOfKind,

@@ -16,7 +16,7 @@ const DATE_SIZE: usize = 4;
 const FIELD_RECORD_SIZE: usize = 1 + 2 + DATE_SIZE;
 
 // What a record's bytes are: a record of a date, or none.
-#[derive(Drop)]
+#[derive(Clone, Copy)]
 pub enum Slot {
     Record {
         kind: Kind,

@@ -8,7 +8,7 @@ ghost use Rattle.book_reader.specs.Places.{next_place};
 use crate::place_after;
 use book::Found;
 
-#[derive(Drop)]
+#[derive(Clone, Copy)]
 pub struct AnyBookReader<'a> {
     pub book: &'a [u8],
     pub place: usize,

@@ -11,7 +11,7 @@ use book::Found;
 
 pub mod any;
 
-#[derive(Drop)]
+#[derive(Clone, Copy)]
 pub struct BookReader<'a> {
     pub book: &'a [u8],
     pub place: usize,

@@ -4,7 +4,7 @@ use script::naturals;
 
 // What is asked for, and how much is lent for it: bytes for the report, numbers for its figures. `gaps` tells a line that lends more
 // than there is as unread.
-#[derive(Drop)]
+#[derive(Clone, Copy)]
 pub(crate) enum GapLine {
     Report(usize),
     Figures(usize),

@@ -9,7 +9,7 @@ use codes::Lettered;
 use kinds::{Kind, Packed};
 use script::naturals;
 
-#[derive(Drop)]
+#[derive(Clone, Copy)]
 pub(crate) enum Line {
     Remark,
     Buffer {
@@ -195,7 +195,7 @@ fn append_date(row: &[u8], at: usize, kind: Kind) -> Line {
 
 // ---- a date's bits
 
-#[derive(Drop)]
+#[derive(Clone, Copy)]
 pub(crate) enum Dated {
     Date(Packed),
     None,

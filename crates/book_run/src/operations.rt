@@ -9,7 +9,7 @@ use book::{Appended, Checked, Found};
 use frame::Started;
 use kinds::{Kind, Packed};
 
-#[derive(Drop)]
+#[derive(Clone, Copy)]
 pub(crate) enum Operation {
     New,
     Check,
@@ -18,7 +18,7 @@ pub(crate) enum Operation {
 }
 
 // What is told of an operation: what it gives, or the number of its refusal, some with a record's place.
-#[derive(Drop)]
+#[derive(Clone, Copy)]
 pub(crate) enum Told {
     Done,
     Number(usize),

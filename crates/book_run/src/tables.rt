@@ -6,7 +6,7 @@ ghost use Rattle.book_run.specs.Tables.{answer_of, buffer_of};
 use script::table_answers;
 use script::table_answers::Told;
 
-#[derive(Drop)]
+#[derive(Clone, Copy)]
 pub(crate) enum TableOperation {
     New,
     Check,

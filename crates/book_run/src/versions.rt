@@ -11,7 +11,7 @@ use book_versions::moves::Moved;
 use book_versions::{any, moves, second};
 use kinds::{Kind, Packed};
 
-#[derive(Drop)]
+#[derive(Clone, Copy)]
 pub(crate) enum VersionOperation {
     New,
     Check,

@@ -13,7 +13,7 @@ use book::{Checked, sized};
 use frame::{HEAD_SIZE, LENGTH_SIZE};
 
 // How many records moved, or why none did; of a bad record, and of one with a field number or a mark, the first one's place.
-#[derive(Drop)]
+#[derive(Clone, Copy)]
 pub enum Moved {
     Records(usize),
     BadLength,

@@ -23,7 +23,7 @@ use uniform_date::UniformDate;
 use vic3_date::Vic3Date;
 
 // What a text is read as.
-#[derive(Drop)]
+#[derive(Clone, Copy)]
 pub enum Parsed {
     Date(Packed),
     TooLong,

@@ -11,14 +11,14 @@ ghost use Rattle.codes.specs.Views.{lettered_as, coded_as, date_number};
 use kinds::{Kind, Packed};
 
 // A kind by its letter.
-#[derive(Drop)]
+#[derive(Clone, Copy)]
 pub enum Lettered {
     Kind(Kind),
     None,
 }
 
 // A kind by its code.
-#[derive(Drop)]
+#[derive(Clone, Copy)]
 pub enum Coded {
     Kind(Kind),
     None,

@@ -21,20 +21,20 @@ use kinds::{Kind, Ordered, Packed};
 use number::Written;
 use scalar::Leading;
 
-#[derive(Drop)]
+#[derive(Clone, Copy)]
 pub struct Date {
     pub raw: Packed,
 }
 
 // A date of given fields.
-#[derive(Drop)]
+#[derive(Clone, Copy)]
 pub enum Made {
     Date(Date),
     NotOfKind,
 }
 
 // What a text is read as.
-#[derive(Drop)]
+#[derive(Clone, Copy)]
 pub enum Parsed {
     Date(Date),
     TooLong,
@@ -42,21 +42,21 @@ pub enum Parsed {
 }
 
 // What the full decoder makes of a number.
-#[derive(Drop)]
+#[derive(Clone, Copy)]
 pub enum Decoded {
     Date(Date),
     NotNumber,
 }
 
 // What the guess makes of a number: never taken for the full decoder's answer.
-#[derive(Drop)]
+#[derive(Clone, Copy)]
 pub enum Guessed {
     Date(Date),
     NotNumber,
 }
 
 // A date moved by days.
-#[derive(Drop)]
+#[derive(Clone, Copy)]
 pub enum Summed {
     Date(Date),
     NotOfKind,

@@ -22,20 +22,20 @@ use kinds::{Kind, Ordered, Packed};
 use number::Written;
 use scalar::Leading;
 
-#[derive(Drop)]
+#[derive(Clone, Copy)]
 pub struct DateHour {
     pub raw: Packed,
 }
 
 // A date of given fields.
-#[derive(Drop)]
+#[derive(Clone, Copy)]
 pub enum Made {
     Date(DateHour),
     NotOfKind,
 }
 
 // What a text is read as.
-#[derive(Drop)]
+#[derive(Clone, Copy)]
 pub enum Parsed {
     Date(DateHour),
     TooLong,
@@ -43,21 +43,21 @@ pub enum Parsed {
 }
 
 // What the full decoder makes of a number.
-#[derive(Drop)]
+#[derive(Clone, Copy)]
 pub enum Decoded {
     Date(DateHour),
     NotNumber,
 }
 
 // What the guess makes of a number: never taken for the full decoder's answer.
-#[derive(Drop)]
+#[derive(Clone, Copy)]
 pub enum Guessed {
     Date(DateHour),
     NotNumber,
 }
 
 // A date moved by hours.
-#[derive(Drop)]
+#[derive(Clone, Copy)]
 pub enum Summed {
     Date(DateHour),
     NotOfKind,

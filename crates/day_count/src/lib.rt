@@ -15,7 +15,7 @@ use kinds::{ExpandedRawDate, Kind, Opened, Packed};
 use sign::Halves;
 
 // A date moved by days, or by hours (`hour_count`), or why there is none.
-#[derive(Drop)]
+#[derive(Clone, Copy)]
 pub enum Sum {
     Date(Packed),
     NotOfKind,
@@ -24,7 +24,7 @@ pub enum Sum {
 }
 
 // Whether the number that a sum gives has a date.
-#[derive(Drop)]
+#[derive(Clone, Copy)]
 pub enum Verdict {
     InRange,
     OutOfRange,
@@ -32,14 +32,14 @@ pub enum Verdict {
 }
 
 // A difference in days, or that one of the dates is not of the kind.
-#[derive(Drop)]
+#[derive(Clone, Copy)]
 pub enum Days {
     Days(i32),
     NotOfKind,
 }
 
 // The start of a date's day.
-#[derive(Drop)]
+#[derive(Clone, Copy)]
 pub enum Start {
     Date(Packed),
     NotOfKind,

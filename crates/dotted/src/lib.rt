@@ -9,21 +9,21 @@ ghost use Rattle.rules.specs.Text.{second_digit, one_or_two, after_dot, hour_aft
 ghost use Rattle.dotted.specs.Views.{taken_as, hour_as, parts_as};
 
 // A number of one or two digits, and the place of what follows it.
-#[derive(Drop)]
+#[derive(Clone, Copy)]
 pub enum Taken {
     Value { value: u8, next: usize },
     Nothing,
 }
 
 // The hour, 0 where the text has none.
-#[derive(Drop)]
+#[derive(Clone, Copy)]
 enum Hour {
     Value(u8),
     NotText,
 }
 
 // Month, day and hour, as they are written: none is tested against the calendar.
-#[derive(Drop)]
+#[derive(Clone, Copy)]
 pub enum Parts {
     Fields { month: u8, day: u8, hour: u8 },
     NotText,

@@ -19,20 +19,20 @@ use formatter::Spelled;
 use kinds::{Kind, Opened, Ordered, Packed};
 use scalar::Leading;
 
-#[derive(Drop)]
+#[derive(Clone, Copy)]
 pub struct Eu5Date {
     pub raw: Packed,
 }
 
 // A date of given fields.
-#[derive(Drop)]
+#[derive(Clone, Copy)]
 pub enum Made {
     Date(Eu5Date),
     NotOfKind,
 }
 
 // What a text is read as.
-#[derive(Drop)]
+#[derive(Clone, Copy)]
 pub enum Parsed {
     Date(Eu5Date),
     TooLong,
@@ -40,21 +40,21 @@ pub enum Parsed {
 }
 
 // What the full decoder makes of a number.
-#[derive(Drop)]
+#[derive(Clone, Copy)]
 pub enum Decoded {
     Date(Eu5Date),
     NotNumber,
 }
 
 // What the guess makes of a number: never taken for the full decoder's answer.
-#[derive(Drop)]
+#[derive(Clone, Copy)]
 pub enum Guessed {
     Date(Eu5Date),
     NotNumber,
 }
 
 // A date moved by days.
-#[derive(Drop)]
+#[derive(Clone, Copy)]
 pub enum Summed {
     Date(Eu5Date),
     NotOfKind,
@@ -63,14 +63,14 @@ pub enum Summed {
 }
 
 // The start of a date's day.
-#[derive(Drop)]
+#[derive(Clone, Copy)]
 pub enum Started {
     Date(Eu5Date),
     NotOfKind,
 }
 
 // The hour that the game shows, 8 to 19.
-#[derive(Drop)]
+#[derive(Clone, Copy)]
 pub enum InGame {
     Hour(u8),
     NotOfKind,

@@ -8,7 +8,7 @@ ghost use Rattle.fast_date.specs.Fast.{quick, eight, quickly};
 use kinds::{Kind, Packed};
 
 // What the fast path answers, if it does.
-#[derive(Drop)]
+#[derive(Clone, Copy)]
 pub enum Fast {
     Date(Packed),
     NotText,

@@ -32,7 +32,7 @@ pub const VERSION: u8 = 1;
 const SIZE: usize = KEY_SIZE + 1;
 
 // The number of entries, or why there is no table.
-#[derive(Drop)]
+#[derive(Clone, Copy)]
 pub enum Checked {
     Entries(usize),
     BadLength,
@@ -41,7 +41,7 @@ pub enum Checked {
 }
 
 // The number of entries after a change, or why there was none.
-#[derive(Drop)]
+#[derive(Clone, Copy)]
 pub enum Changed {
     Entries(usize),
     BadLength,
@@ -52,7 +52,7 @@ pub enum Changed {
 }
 
 // What an entry declares, or why there is none.
-#[derive(Drop)]
+#[derive(Clone, Copy)]
 pub enum Entry {
     Field { field: u32, kind: Kind },
     BadLength,
@@ -63,7 +63,7 @@ pub enum Entry {
 
 // The date of a number and the kind that was used: the field's own, or the game's, whose guess it was and by which the date is marked.
 // Or why there is no date.
-#[derive(Drop)]
+#[derive(Clone, Copy)]
 pub enum Looked {
     Declared { kind: Kind, date: Packed },
     Guessed { kind: Kind, date: Packed },

@@ -13,7 +13,7 @@ use codes::Coded;
 use frame::{Framed, HEAD_SIZE};
 
 // Where the entry with a key stands, or where it would stand.
-#[derive(Drop)]
+#[derive(Clone, Copy)]
 pub enum Found {
     At(usize),
     Absent(usize),

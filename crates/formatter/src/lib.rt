@@ -19,7 +19,7 @@ mod styles;
 mod years;
 
 // How many bytes were written; or why none was: the date is not of the kind, or the buffer is shorter than the text.
-#[derive(Drop)]
+#[derive(Clone, Copy)]
 pub enum Spelled {
     Length(usize),
     NotOfKind,

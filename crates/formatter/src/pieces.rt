@@ -5,14 +5,14 @@ ghost use Rattle.digits.specs.Places.{placed};
 ghost use Rattle.formatter.specs.Pieces.{separated, hour_text};
 
 // The separator before a number, and whether the number has always two digits.
-#[derive(Drop)]
+#[derive(Clone, Copy)]
 pub(crate) struct Style {
     pub(crate) separator: u8,
     pub(crate) wide: bool,
 }
 
 // An hour, if it is shown.
-#[derive(Drop)]
+#[derive(Clone, Copy)]
 pub(crate) struct Hour {
     pub(crate) shown: bool,
     pub(crate) style: Style,

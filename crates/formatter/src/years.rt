@@ -5,7 +5,7 @@ ghost use Rattle.digits.specs.Places.{placed, digits_in};
 ghost use Rattle.formatter.specs.Pieces.{filled_year, sign_text, year_text};
 
 // A year's sign as its byte, or NO_SIGN; its size; and in how many digits the size is written.
-#[derive(Drop)]
+#[derive(Clone, Copy)]
 pub(crate) struct Year {
     pub(crate) sign: u8,
     pub(crate) size: u64,

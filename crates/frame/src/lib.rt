@@ -15,7 +15,7 @@ pub const LENGTH_SIZE: usize = 4;
 pub const HEAD_SIZE: usize = LENGTH_SIZE + 1;
 
 // The number of pieces, or why there is no frame.
-#[derive(Drop)]
+#[derive(Clone, Copy)]
 pub enum Framed {
     Pieces(usize),
     BadLength,
@@ -23,7 +23,7 @@ pub enum Framed {
 }
 
 // An empty frame was written, or there was no room.
-#[derive(Drop)]
+#[derive(Clone, Copy)]
 pub enum Started {
     Written,
     NoRoom,

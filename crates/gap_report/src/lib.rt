@@ -24,7 +24,7 @@ mod numbers;
 mod tally;
 
 // How many bytes were written, or numbers; or why nothing was.
-#[derive(Drop)]
+#[derive(Clone, Copy)]
 pub enum Reported {
     Length(usize),
     BadLength,

@@ -19,7 +19,7 @@ use kinds::{Kind, Ordered, Packed};
 // What the records of a kind have told so far; nothing where the count is 0. The dates have the marks that they were found with. `first` and
 // `last` are the day numbers of the first and of the last record, counted from the least one, and `at` is the place of the last; `step` is
 // the longest step, and `place` that of the record before it.
-#[derive(Drop)]
+#[derive(Clone, Copy)]
 pub(crate) struct Tally {
     pub(crate) count: u32,
     pub(crate) earliest: Packed,
@@ -131,7 +131,7 @@ fn begun(kind: Kind, place: u32, date: Packed) -> Tally
 }
 
 // How long a step is, and the place of the record that stands first in the book.
-#[derive(Drop)]
+#[derive(Clone, Copy)]
 struct Step {
     long: u32,
     place: u32,

@@ -23,7 +23,7 @@ pub const HOUR: u64 = 1;
 pub const SIX_HOURS: u64 = 6;
 
 // A difference in hours or in blocks of hours, or that one of the dates is not of the kind.
-#[derive(Drop)]
+#[derive(Clone, Copy)]
 pub enum Counted {
     Count(i32),
     NotOfKind,

@@ -26,7 +26,7 @@ pub fn month_length(month: u8) -> u8
 }
 
 // A month from 1 and a day from 1.
-#[derive(Drop)]
+#[derive(Clone, Copy)]
 pub struct MonthDay {
     pub month: u8,
     pub day: u8,
@@ -44,7 +44,7 @@ pub fn month_day_from_julian(day_of_year: u16) -> MonthDay
     }
 }
 
-#[derive(Drop)]
+#[derive(Clone, Copy)]
 pub enum FirstDay {
     Day(u16),
     NoMonth,

@@ -15,7 +15,7 @@ pub use word::{
 mod word;
 
 // R raw, D plain, H hourly, U uniform, E EU5, V Victoria 3.
-#[derive(Drop)]
+#[derive(Clone, Copy)]
 pub enum Kind {
     Raw,
     Date,
@@ -26,7 +26,7 @@ pub enum Kind {
 }
 
 // A date where each component is a full data type.
-#[derive(Drop)]
+#[derive(Clone, Copy)]
 pub struct ExpandedRawDate {
     pub year: i16,
     pub month: u8,
@@ -35,28 +35,28 @@ pub struct ExpandedRawDate {
 }
 
 // A date as it is stored: the year, and month × 4096 + day × 128 + hour × 4 beside it, with its mark added. Any bits can be handed in.
-#[derive(Drop)]
+#[derive(Clone, Copy)]
 pub struct Packed {
     pub year: i16,
     pub word: u16,
 }
 
 // A date, or none of that kind.
-#[derive(Drop)]
+#[derive(Clone, Copy)]
 pub enum Made {
     Date(Packed),
     None,
 }
 
 // The fields of a date handed in, or none of that kind.
-#[derive(Drop)]
+#[derive(Clone, Copy)]
 pub enum Opened {
     Fields(ExpandedRawDate),
     NotOfKind,
 }
 
 // The order of two dates handed in, or that one of them is not of the kind.
-#[derive(Drop)]
+#[derive(Clone, Copy)]
 pub enum Ordered {
     Before,
     Same,

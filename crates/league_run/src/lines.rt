@@ -4,7 +4,7 @@ use crate::operations::Operation;
 use crate::setting::Setting;
 use script::naturals;
 
-#[derive(Drop)]
+#[derive(Clone, Copy)]
 pub(crate) enum Line {
     Remark,
     Buffer { length: usize, byte: u8 },

@@ -10,7 +10,7 @@ use league_table::moves;
 use script::table_answers;
 use script::table_answers::Told;
 
-#[derive(Drop)]
+#[derive(Clone, Copy)]
 pub(crate) enum Operation {
     New,
     Check(u32),

@@ -4,7 +4,7 @@ use script::preparing;
 
 // One byte; or the entries of so many fields from the first on, all of one code, from a place on: of version 1 in three bytes each, of
 // version 2 in four, with the league before the field.
-#[derive(Drop)]
+#[derive(Clone, Copy)]
 pub(crate) enum Setting {
     Byte {
         place: usize,

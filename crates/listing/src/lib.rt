@@ -16,7 +16,7 @@ mod passes;
 pub mod room;
 
 // The length of what was written, or that the buffer is shorter than it.
-#[derive(Drop)]
+#[derive(Clone, Copy)]
 pub enum Listed {
     Length(usize),
     Short,

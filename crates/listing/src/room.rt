@@ -7,7 +7,7 @@ ghost use Rattle.listing.specs.Answers.{lent_as};
 use crate::Listed;
 
 // How many bytes; or that too many are to be listed, or that the buffer is shorter than the listing.
-#[derive(Drop)]
+#[derive(Clone, Copy)]
 pub enum Lent {
     Length(usize),
     TooLong,

@@ -13,28 +13,28 @@ use kinds::{ExpandedRawDate, GUESSED_MARK, Kind, Made, NO_MARK, Opened, Packed};
 mod narrow;
 
 // The fields of a number, or none.
-#[derive(Drop)]
+#[derive(Clone, Copy)]
 pub enum Numbered {
     Fields(ExpandedRawDate),
     None,
 }
 
 // What the full decoder answers. It is not the guess's answer, so that neither is taken for the other.
-#[derive(Drop)]
+#[derive(Clone, Copy)]
 pub enum Read {
     Date(Packed),
     NotNumber,
 }
 
 // What the guess answers.
-#[derive(Drop)]
+#[derive(Clone, Copy)]
 pub enum Guess {
     Date(Packed),
     NotNumber,
 }
 
 // The number of a date.
-#[derive(Drop)]
+#[derive(Clone, Copy)]
 pub enum Written {
     Number(i32),
     NotOfKind,

@@ -17,7 +17,7 @@ mod versions;
 // Refusal 0: value is the answer, a date's number, a length, a room, a count or a place. At 11 and 21 value is the record's place, and
 // at every other refusal 0.
 #[repr(C)]
-#[derive(Drop)]
+#[derive(Clone, Copy)]
 pub struct PqAnswer {
     pub refusal: u32,
     pub value: u32,
@@ -25,7 +25,7 @@ pub struct PqAnswer {
 
 // The same with a signed value: a date's number as D and H write it, days, hours, blocks of hours, or an order.
 #[repr(C)]
-#[derive(Drop)]
+#[derive(Clone, Copy)]
 pub struct PqNumber {
     pub refusal: u32,
     pub value: i32,
@@ -33,7 +33,7 @@ pub struct PqNumber {
 
 // A record of a book, whose field is 0 for none and in version 1; or an entry of a field table, whose value is 0.
 #[repr(C)]
-#[derive(Drop)]
+#[derive(Clone, Copy)]
 pub struct PqRecord {
     pub refusal: u32,
     pub kind: u32,
@@ -43,7 +43,7 @@ pub struct PqRecord {
 
 // A number looked up in a field table: the kind that was used, the date, and 1 where it was guessed. At a refusal the others are 0.
 #[repr(C)]
-#[derive(Drop)]
+#[derive(Clone, Copy)]
 pub struct PqLookup {
     pub refusal: u32,
     pub kind: u32,

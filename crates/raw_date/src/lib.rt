@@ -17,20 +17,20 @@ use formatter::Spelled;
 use kinds::{Kind, Ordered, Packed};
 use scalar::Leading;
 
-#[derive(Drop)]
+#[derive(Clone, Copy)]
 pub struct RawDate {
     pub raw: Packed,
 }
 
 // A date of given fields.
-#[derive(Drop)]
+#[derive(Clone, Copy)]
 pub enum Made {
     Date(RawDate),
     NotOfKind,
 }
 
 // What a text is read as.
-#[derive(Drop)]
+#[derive(Clone, Copy)]
 pub enum Parsed {
     Date(RawDate),
     TooLong,
@@ -38,7 +38,7 @@ pub enum Parsed {
 }
 
 // What the full decoder makes of a number.
-#[derive(Drop)]
+#[derive(Clone, Copy)]
 pub enum Decoded {
     Date(RawDate),
     NotNumber,

@@ -15,7 +15,7 @@ use uniform_date::UniformDate;
 use vic3_date::Vic3Date;
 
 // What is told: a date, a number, the number of a refusal, or that there was nothing to ask.
-#[derive(Drop)]
+#[derive(Clone, Copy)]
 pub(crate) enum Told {
     Date(Packed),
     Number(i32),

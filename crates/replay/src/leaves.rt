@@ -7,7 +7,7 @@ use scalar::Leading;
 use util::Parsed;
 
 // What is told.
-#[derive(Drop)]
+#[derive(Clone, Copy)]
 pub(crate) enum LeafTold {
     Leading { value: i64, rest: usize },
     NoLeading,

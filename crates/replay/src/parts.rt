@@ -21,7 +21,7 @@ pub(crate) fn at_most(row: &[u8], at: usize, most: u64) -> Number
 }
 
 // A year, and the place after it.
-#[derive(Drop)]
+#[derive(Clone, Copy)]
 pub(crate) struct ReadYear {
     pub(crate) value: i16,
     pub(crate) next: usize,
@@ -46,7 +46,7 @@ pub(crate) fn year(row: &[u8], at: usize) -> ReadYear {
 }
 
 // `year month day hour`, each in the range of its type, and the place after it.
-#[derive(Drop)]
+#[derive(Clone, Copy)]
 pub(crate) struct ReadFields {
     pub(crate) fields: ExpandedRawDate,
     pub(crate) next: usize,
@@ -83,7 +83,7 @@ fn mark(row: &[u8], at: usize) -> Number
 }
 
 // `year month day hour`, with its mark, as a date that is handed in, and the place after it.
-#[derive(Drop)]
+#[derive(Clone, Copy)]
 pub(crate) struct ReadDate {
     pub(crate) date: Packed,
     pub(crate) next: usize,
@@ -125,7 +125,7 @@ pub(crate) fn hex_digit(b: u8) -> u8
 }
 
 // A word of 64 bits in hexadecimal digits, and the place after it.
-#[derive(Drop)]
+#[derive(Clone, Copy)]
 pub(crate) struct ReadWord {
     pub(crate) value: u64,
     pub(crate) next: usize,

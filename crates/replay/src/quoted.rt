@@ -5,14 +5,14 @@ use crate::parts;
 use rows::NOWHERE;
 
 // How many bytes the text has, and the place after it.
-#[derive(Drop)]
+#[derive(Clone, Copy)]
 pub(crate) struct Quoted {
     pub(crate) length: usize,
     pub(crate) next: usize,
 }
 
 // One byte of the text, and the place after it.
-#[derive(Drop)]
+#[derive(Clone, Copy)]
 struct OneByte {
     value: u8,
     next: usize,

@@ -18,7 +18,7 @@ mod line;
 mod numeral;
 
 // How the rest of a line is read: as text, as a number by the full decoder, as a number by the guess.
-#[derive(Drop)]
+#[derive(Clone, Copy)]
 pub enum Way {
     Text,
     Number,
@@ -26,14 +26,14 @@ pub enum Way {
 }
 
 // What a line asks for: its rest, from place 4 on, read as a date of this kind in this way.
-#[derive(Drop)]
+#[derive(Clone, Copy)]
 pub enum Request {
     Ask { kind: Kind, way: Way },
     Unreadable,
 }
 
 // The date of a line's rest, or the number of the refusal.
-#[derive(Drop)]
+#[derive(Clone, Copy)]
 pub enum Asked {
     Date(Packed),
     Refused(u8),

@@ -8,7 +8,7 @@ use crate::{Request, Way};
 use codes::Lettered;
 use kinds::Kind;
 
-#[derive(Drop)]
+#[derive(Clone, Copy)]
 enum WayRead {
     Way(Way),
     None,

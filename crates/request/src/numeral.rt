@@ -8,7 +8,7 @@ ghost use Rattle.request.specs.Views.{numeral_as};
 use scalar::Leading;
 
 // A number of 32 bits, or none.
-#[derive(Drop)]
+#[derive(Clone, Copy)]
 pub enum Numeral {
     Value(i32),
     None,

@@ -5,7 +5,7 @@ ghost use Rattle.room_run.specs.Lines.{line_of, worded_or, text_of};
 
 use script::naturals;
 
-#[derive(Drop)]
+#[derive(Clone, Copy)]
 pub(crate) enum Line {
     Remark,
     Clear,

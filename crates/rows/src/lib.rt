@@ -10,7 +10,7 @@ ghost use Rattle.rows.specs.Views.{number_as, whole_as};
 pub const NOWHERE: usize = 0xffff_ffff_ffff_ffff;
 
 // up - dn, of which one is 0, and the place after it.
-#[derive(Drop)]
+#[derive(Clone, Copy)]
 pub struct Number {
     pub up: u64,
     pub dn: u64,
@@ -18,7 +18,7 @@ pub struct Number {
 }
 
 // A number of 32 bits, and the place after it.
-#[derive(Drop)]
+#[derive(Clone, Copy)]
 pub struct Whole {
     pub value: i32,
     pub next: usize,

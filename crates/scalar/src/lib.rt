@@ -12,13 +12,13 @@ const MOST: u64 = 0x7fff_ffff_ffff_ffff;
 const TENTH: u64 = 922_337_203_685_477_580;
 
 // A number, and the place of what follows it.
-#[derive(Drop)]
+#[derive(Clone, Copy)]
 pub enum Leading {
     Number { value: i64, next: usize },
     Refused,
 }
 
-#[derive(Drop)]
+#[derive(Clone, Copy)]
 enum Partial {
     Value { value: u64, next: usize },
     TooLarge,

@@ -3,14 +3,14 @@ ghost use Rattle.std.specs.Prelude.{◌≡◌, drop};
 ghost use Rattle.script.specs.Naturals.{natural_up_to, word_as, byte_as};
 
 // A number of 32 bits without a sign, and the place after it.
-#[derive(Drop)]
+#[derive(Clone, Copy)]
 pub struct Word {
     pub value: u32,
     pub next: usize,
 }
 
 // A number of 8 bits, and the place after it.
-#[derive(Drop)]
+#[derive(Clone, Copy)]
 pub struct Byte {
     pub value: u8,
     pub next: usize,

@@ -10,7 +10,7 @@ use frame::Started;
 use kinds::{Kind, Packed};
 
 // What is told of an operation: what it gives, or the number of its refusal.
-#[derive(Drop)]
+#[derive(Clone, Copy)]
 pub enum Told {
     Done,
     Number(usize),

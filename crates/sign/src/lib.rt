@@ -6,7 +6,7 @@ ghost use Rattle.std.proofs.Math.IntN.{sub_ℕ};
 ghost use Rattle.sign.specs.Halves.{up, dn, Halved};
 
 // A number as two naturals, of which one is 0: it is up - dn. Sums and products of two 32-bit numbers stay in 64 bits.
-#[derive(Drop)]
+#[derive(Clone, Copy)]
 pub struct Halves {
     pub up: u64,
     pub dn: u64,

@@ -16,20 +16,20 @@ use formatter::Spelled;
 use kinds::{Kind, Ordered, Packed};
 use scalar::Leading;
 
-#[derive(Drop)]
+#[derive(Clone, Copy)]
 pub struct UniformDate {
     pub raw: Packed,
 }
 
 // A date of given fields.
-#[derive(Drop)]
+#[derive(Clone, Copy)]
 pub enum Made {
     Date(UniformDate),
     NotOfKind,
 }
 
 // What a text is read as.
-#[derive(Drop)]
+#[derive(Clone, Copy)]
 pub enum Parsed {
     Date(UniformDate),
     TooLong,

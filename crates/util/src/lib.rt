@@ -6,7 +6,7 @@ ghost use Rattle.rules.specs.Text.{decimal_value};
 ghost use Rattle.util.specs.Word.{bytes_of, all_digits};
 ghost use Rattle.util.specs.Parse.{parsed, value_of};
 
-#[derive(Drop)]
+#[derive(Clone, Copy)]
 pub enum Parsed {
     Value(u64),
     NotDigits,

@@ -22,20 +22,20 @@ use hour_count::Counted;
 use kinds::{Kind, Ordered, Packed};
 use scalar::Leading;
 
-#[derive(Drop)]
+#[derive(Clone, Copy)]
 pub struct Vic3Date {
     pub raw: Packed,
 }
 
 // A date of given fields.
-#[derive(Drop)]
+#[derive(Clone, Copy)]
 pub enum Made {
     Date(Vic3Date),
     NotOfKind,
 }
 
 // What a text is read as.
-#[derive(Drop)]
+#[derive(Clone, Copy)]
 pub enum Parsed {
     Date(Vic3Date),
     TooLong,
@@ -43,21 +43,21 @@ pub enum Parsed {
 }
 
 // What the full decoder makes of a number.
-#[derive(Drop)]
+#[derive(Clone, Copy)]
 pub enum Decoded {
     Date(Vic3Date),
     NotNumber,
 }
 
 // What the guess makes of a number: never taken for the full decoder's answer.
-#[derive(Drop)]
+#[derive(Clone, Copy)]
 pub enum Guessed {
     Date(Vic3Date),
     NotNumber,
 }
 
 // A date moved by days, or by blocks of six hours.
-#[derive(Drop)]
+#[derive(Clone, Copy)]
 pub enum Summed {
     Date(Vic3Date),
     NotOfKind,

@@ -25,7 +25,7 @@ found_right d h = eqb→eq (found d) (entry d) (below (λ n. eqb (found n) (entr
 returns : tie.Need-returns
 unfolding month_day walk lengths
 returns c =
-    let s = c.before.before in rw c.word.ensures (found_right s.args.day-of-year s.requires)
+    let s = c.before.before in rw c.word-word.ensures (found_right s.args.day_of_year s.requires)
 
 pub entry_spec : {M : Type 1} → statement M
 entry_spec =

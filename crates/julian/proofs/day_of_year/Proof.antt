@@ -33,22 +33,22 @@ found m d first p e =
     let s = day-of-year-small m d p.1 p.2 p.3 in
     omega arith
 
-sum : (c : tie.After-known-told) → let x = c.before.before.before.before in let first = c.before.first.given.0.0 in
+sum : (c : tie.In-Day) → let x = c in let first = c.in-Day.first in
     (first + x.args.day < 366) × (first + x.args.day - 1 ≡ day_of_year x.args.month x.args.day)
 sum c =
-    let x = c.before.before.before.before in
-    found x.args.month x.args.day c.before.first.given.0.0 x.requires
-    (ap first_day_as (sym c.before.first.given.1) ∙ c.before.before.before.julian-ordinal-day.ensures)
+    let x = c in
+    found x.args.month x.args.day c.in-Day.first x.requires
+    (ap first_day_as (sym c.in-Day.is) ∙ c.julian_ordinal_day.ensures)
 
-pub day-of-year-spec : {M : Type 1} → statement M
-day-of-year-spec =
+pub day_of_year_spec : {M : Type 1} → statement M
+day_of_year_spec =
     tie.close
     (tie.spec
     (λ c κs. search rules)
     (λ c. search rules)
     (λ c. search rules)
-    (λ c. let x = c.before.before.before in
-    absurd (never x.args.month x.requires.0 x.requires.1 (ap first_day_as (sym c.enum_told.given.1) ∙ c.before.before.julian-ordinal-day.ensures)))
+    (λ c. let x = c in
+    absurd (never x.args.month x.requires.0 x.requires.1 (ap first_day_as (sym c.in_default.is) ∙ c.julian_ordinal_day.ensures)))
     (λ c. omega (arith, sum c))
     (λ c. search rules)
     (λ c. omega (arith, sum c)))

@@ -18,21 +18,21 @@ unfolding first_day_of
 outside m h =
     ⊎_elim (λ (e : m ≡ 0). ap first_day_of e) (λ (p : 0 < m). simp (le-leb 1 m p, lt-leb m 12 (h p))) (eq-zero-or-pos m)
 
-pub julian-ordinal-day-spec : {M : Type 1} → statement M
+pub julian_ordinal_day_spec : {M : Type 1} → statement M
 unfolding first_day_of first_day sum_first lengths
-julian-ordinal-day-spec =
+julian_ordinal_day_spec =
     tie.close
     (tie.spec
-    (λ c. sym (ap first_day_of c.match.keys1))
-    (λ c. sym (ap first_day_of c.match.keys2))
-    (λ c. sym (ap first_day_of c.match.keys3))
-    (λ c. sym (ap first_day_of c.match.keys4))
-    (λ c. sym (ap first_day_of c.match.keys5))
-    (λ c. sym (ap first_day_of c.match.keys6))
-    (λ c. sym (ap first_day_of c.match.keys7))
-    (λ c. sym (ap first_day_of c.match.keys8))
-    (λ c. sym (ap first_day_of c.match.keys9))
-    (λ c. sym (ap first_day_of c.match.keys10))
-    (λ c. sym (ap first_day_of c.match.keys11))
-    (λ c. sym (ap first_day_of c.match.keys12))
-    (λ c. sym (outside c.before.args.month (past 1 c.before.args.month 12 c.match.rest))))
+    (λ c. sym (ap first_day_of c.in-1.is))
+    (λ c. sym (ap first_day_of c.in-2.is))
+    (λ c. sym (ap first_day_of c.in-3.is))
+    (λ c. sym (ap first_day_of c.in-4.is))
+    (λ c. sym (ap first_day_of c.in-5.is))
+    (λ c. sym (ap first_day_of c.in-6.is))
+    (λ c. sym (ap first_day_of c.in-7.is))
+    (λ c. sym (ap first_day_of c.in-8.is))
+    (λ c. sym (ap first_day_of c.in-9.is))
+    (λ c. sym (ap first_day_of c.in-10.is))
+    (λ c. sym (ap first_day_of c.in-11.is))
+    (λ c. sym (ap first_day_of c.in-12.is))
+    (λ c. sym (outside c.args.month (past 1 c.args.month 12 c.in_default.in_default-own.rest))))

@@ -10,11 +10,11 @@ use Rattle.julian.proofs.month_day_from_julian.Tie as tie
 small : (d : ℕ) → d < 365 → ((month_day d).month < 13) × ((month_day d).day < 32)
 small d h = let x = is-day d h in let l = length-small (month_day d).month x.month-high in omega arith
 
-pub month-day-from-julian-spec : {M : Type 1} → statement M
-month-day-from-julian-spec =
+pub month_day_from_julian_spec : {M : Type 1} → statement M
+month_day_from_julian_spec =
     tie.close
     (tie.spec
     (λ c κs. search rules)
-    (λ c. let d = c.before.args.day-of-year in omega (arith, c.entry.ensures, small d c.before.requires))
-    (λ c. let d = c.before.args.day-of-year in omega (arith, c.entry.ensures, small d c.before.requires))
-    (λ c. let d = c.before.args.day-of-year in omega (arith, c.entry.ensures, small d c.before.requires)))
+    (λ c. let d = c.args.day_of_year in omega (arith, c.entry-entry.ensures, small d c.requires))
+    (λ c. let d = c.args.day_of_year in omega (arith, c.entry-entry.ensures, small d c.requires))
+    (λ c. let d = c.args.day_of_year in omega (arith, c.entry-entry.ensures, small d c.requires)))

@@ -37,13 +37,13 @@ other : (m : ℕ) → 1 ≤ m → m ≤ 12 → (m ≡ 2 → ⊥) → 30 + (m + m
 unfolding worked
 other m a b n = rw (← worked-right m b, le-ltb m 1 a, ne_eqb m 2 n)
 
-pub month-length-spec : {M : Type 1} → statement M
-month-length-spec =
+pub month_length_spec : {M : Type 1} → statement M
+month_length_spec =
     tie.close
     (tie.spec
-    (λ c. no-month c.before.args.month (omega arith))
-    (λ c. none c.before.before.args.month (omega arith))
-    (λ c. february c.before.before.before.args.month (omega arith))
+    (λ c. no-month c.args.month (omega arith))
+    (λ c. none c.args.month (omega arith))
+    (λ c. february c.args.month (omega arith))
     (λ c. omega arith)
     (λ c. omega arith)
-    (λ c. other c.before.before.before.args.month (omega arith) (omega arith) (λ e. omega arith)))
+    (λ c. other c.args.month (omega arith) (omega arith) (λ e. omega arith)))

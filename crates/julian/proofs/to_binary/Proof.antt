@@ -31,13 +31,13 @@ law y u d n h t =
 
 returns : tie.Need-returns
 returns c =
-    let x = c.before.before in
-    held w32 c.int32.type-inv
+    let x = c in
+    held w32 c.int32.type_inv
     ∙ c.int32.ensures
-    ∙ law x.args.year _ _ x.args.day-of-year x.args.hour (rw (to_z-of_z x.ranges.year) at c.before.halves16.ensures)
+    ∙ law x.args.year _ _ x.args.day_of_year x.args.hour (rw (to_z-of_z x.ranges.year) at c.halves16-h.ensures)
 
-pub to-binary-spec : {M : Type 1} → statement M
-to-binary-spec =
+pub to_binary_spec : {M : Type 1} → statement M
+to_binary_spec =
     tie.close
     (tie.spec
     (λ c κs. search rules)

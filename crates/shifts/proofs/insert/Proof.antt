@@ -7,8 +7,8 @@ use Rattle.shifts.proofs.insert.Tie as tie
 
 returns : tie.Need-returns
 returns c =
-    let a = c.before.before.before.before.before.before.before.before.before.before.args in opened-by a.b.now a.v.now _ _ a.at a.end (omega arith) (omega arith) c.before.before.before.before.before.before.move_up.ensures c.before.before.put.ensures
+    let a = c.args in opened-by a.b.now a.v.now _ _ a.at a.end (omega arith) (omega arith) c.move_up.ensures c.put.ensures
 
-pub insert-spec : {M : Type 1} → statement M
-insert-spec =
+pub insert_spec : {M : Type 1} → statement M
+insert_spec =
     tie.close (tie.spec (λ c. search rules) (λ c. search rules) (λ c κs. search rules) (λ c κs. search rules) (λ c. search rules) returns)

@@ -7,10 +7,10 @@ use Rattle.shifts.proofs.remove.Tie as tie
 
 returns : tie.Need-returns
 returns c =
-    let a = c.before.before.before.before.before.before.before.before.before.args in closed-by a.b.now _ _ a.at a.end a.k (omega arith) (omega arith) c.before.before.before.before.before.before.move_down.ensures c.before.before.zero.ensures
+    let a = c.args in closed-by a.b.now _ _ a.at a.end a.k (omega arith) (omega arith) c.move_down.ensures c.zero.ensures
 
-pub remove-spec : {M : Type 1} → statement M
-remove-spec =
+pub remove_spec : {M : Type 1} → statement M
+remove_spec =
     tie.close
     (tie.spec
     (λ c. search rules)

@@ -39,7 +39,7 @@ pub length-told : {R : Type 0} (view : R → Answer ℕ) (long : R → ℕ) → 
 length-told view long same r n e = sym (same r) ∙ ap (back_one (λ (x : ℕ). x) 0) e
 
 spelled-length : (r : Spelled) → back_one (λ (x : ℕ). x) 0 (spelled_as r) ≡ length_of r
-spelled-length r = elim r [ W.Length m ↦ refl | W.NotOfKind ↦ refl | W.Short ↦ refl ]
+spelled-length r = elim r as (λ (r : Spelled). back_one (λ (x : ℕ). x) 0 (spelled_as r) ≡ length_of r) [ W.Length m ↦ refl | W.NotOfKind ↦ refl | W.Short ↦ refl ]
 
 -- what the writer of a text of at most 15 bytes answers then, and what the buffer holds
 pub record Fits (t l₀ : List ℕ) (r : Spelled) (l : List ℕ) : Type 0 where

@@ -34,7 +34,7 @@ kind_back K.kE = C.Eu5
 kind_back K.kV = C.Vic3
 
 pub kind-back : (k : Kind) → kind_back (kind_of k) ≡ k
-kind-back k = elim k [ C.Raw ↦ refl | C.Date ↦ refl | C.Hour ↦ refl | C.Uniform ↦ refl | C.Eu5 ↦ refl | C.Vic3 ↦ refl ]
+kind-back k = elim k as (λ (k : Kind). kind_back (kind_of k) ≡ k) [ C.Raw ↦ refl | C.Date ↦ refl | C.Hour ↦ refl | C.Uniform ↦ refl | C.Eu5 ↦ refl | C.Vic3 ↦ refl ]
 
 pub answer-determined : (n : ℕ) → Determines (made_as n)
 answer-determined n = determined (made_as n) (back_one (λ d. M.Date (packed_of d)) M.None) (λ r. elim r as (λ k. (back_one (λ d. M.Date (packed_of d)) M.None) ((made_as n) k) ≡ k) [ M.Date d ↦ refl | M.None ↦ refl ])

@@ -101,7 +101,7 @@ pub record Whole (t l₀ : List ℕ) (r : Listed) (l : List ℕ) : Type 0 where
   pub holds : l ≡ t ++ drop (length t) l₀
 
 listed-length : (r : Listed) → back_one (λ (x : ℕ). x) 0 (listed_as r) ≡ length_of r
-listed-length r = elim r [ L.Length m ↦ refl | L.Short ↦ refl ]
+listed-length r = elim r as (λ (r : Listed). back_one (λ (x : ℕ). x) 0 (listed_as r) ≡ length_of r) [ L.Length m ↦ refl | L.Short ↦ refl ]
 
 pub whole : (t l₀ : List ℕ) {l : List ℕ} (r : Listed) → length t ≤ length l₀
     → listed_as r ≡ put_answer (Gives t) l₀ → l ≡ put_buffer (Gives t) l₀ → Whole t l₀ r l

@@ -21,7 +21,7 @@ way_back L.by_number = W.Number
 way_back L.by_guess = W.Guess
 
 way_back_lem : (w : Way) → way_back (way_of w) ≡ w
-way_back_lem w = elim w [ W.Text ↦ refl | W.Number ↦ refl | W.Guess ↦ refl ]
+way_back_lem w = elim w as (λ (w : Way). way_back (way_of w) ≡ w) [ W.Text ↦ refl | W.Number ↦ refl | W.Guess ↦ refl ]
 
 abbrev request_back : Answer L.Line → Request
 request_back = back_one (λ (l : L.Line). R.Ask (kind_back l.kind) (way_back l.way)) R.Unreadable

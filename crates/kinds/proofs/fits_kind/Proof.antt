@@ -7,31 +7,31 @@ use Rattle.kinds.specs.Views.{kind_of}
 use Rattle.kinds.proofs.fits_kind.Statement.{statement}
 use Rattle.kinds.proofs.fits_kind.Tie as tie
 
-returns : tie.Need-returns
+returns : tie.Need-returns-then-month-lt1
 unfolding fits_kind
-returns c = rw (lt-leb 1 c.before.args.month c.if1.true)
+returns c = rw (lt-leb 1 c.args.month c.if-month-lt1.true)
 
-returns-2 : tie.Need-returns-2
+returns-2 : tie.Need-returns-then-month-gt12
 unfolding fits_kind
 returns-2 c =
-    rw (le-leb 1 c.before.before.args.month c.before.if1.false, lt-leb c.before.before.args.month 12 c.if2.true)
+    rw (le-leb 1 c.args.month c.if-month-lt1.false, lt-leb c.args.month 12 c.if-month-gt12.true)
 
-returns-3 : tie.Need-returns-3
+returns-3 : tie.Need-returns-then-day-lt1
 unfolding fits_kind
 returns-3 c =
-    rw (le-leb 1 c.before.before.before.args.month c.before.before.if1.false, le-leb c.before.before.before.args.month 12 c.before.if2.false, lt-leb 1 c.before.before.before.args.day c.if3.true)
+    rw (le-leb 1 c.args.month c.if-month-lt1.false, le-leb c.args.month 12 c.if-month-gt12.false, lt-leb 1 c.args.day c.if-day-lt1.true)
 
-returns-4 : tie.Need-returns-4
+returns-4 : tie.Need-returns-then-days_in-day
 unfolding fits_kind
 returns-4 c =
-    let a = c.before.before.before.before.before.args in rw (le-leb 1 a.month c.before.before.before.before.if1.false, le-leb a.month 12 c.before.before.before.if2.false, le-leb 1 a.day c.before.before.if3.false, lt-leb a.day (days_in (kind_of a.kind) a.month) (rw c.before.days-in.ensures at c.if4.true))
+    let a = c.args in rw (le-leb 1 a.month c.if-month-lt1.false, le-leb a.month 12 c.if-month-gt12.false, le-leb 1 a.day c.if-day-lt1.false, lt-leb a.day (days_in (kind_of a.kind) a.month) (rw c.days_in.ensures at c.if-days_in-day.true))
 
-returns-5 : tie.Need-returns-5
+returns-5 : tie.Need-returns
 unfolding fits_kind
 returns-5 c =
-    let a = c.before.before.before.before.before.before.args in rw (le-leb 1 a.month c.before.before.before.before.before.if1.false, le-leb a.month 12 c.before.before.before.before.if2.false, le-leb 1 a.day c.before.before.before.if3.false, le-leb a.day (days_in (kind_of a.kind) a.month) (rw c.before.before.days-in.ensures at c.before.if4.false)) c.hour-fits.ensures
+    let a = c.args in rw (le-leb 1 a.month c.if-month-lt1.false, le-leb a.month 12 c.if-month-gt12.false, le-leb 1 a.day c.if-day-lt1.false, le-leb a.day (days_in (kind_of a.kind) a.month) (rw c.days_in.ensures at c.if-days_in-day.false)) c.hour_fits.ensures
 
-pub fits-kind-spec : {M : Type 1} → statement M
-fits-kind-spec =
+pub fits_kind_spec : {M : Type 1} → statement M
+fits_kind_spec =
     tie.close
     (tie.spec returns returns-2 returns-3 (λ c κs. search rules) returns-4 (λ c κs. search rules) returns-5)

@@ -8,7 +8,7 @@ use Rattle.kinds.proofs.from_fields.Tie as tie
 returns : tie.Need-returns
 unfolding from_fields
 returns c =
-    rw (← c.before.field-set-hour.ensures) (rw (to_z-of_z c.before.before.ranges.year) at c.make-wide.ensures)
+    rw (← c.field_set_hour.ensures) (rw (to_z-of_z c.ranges.year) at c.make_wide.ensures)
 
-pub from-fields-spec : {M : Type 1} → statement M
-from-fields-spec = tie.close (tie.spec (λ c κs. search rules) (λ c κs. search rules) returns)
+pub from_fields_spec : {M : Type 1} → statement M
+from_fields_spec = tie.close (tie.spec (λ c κs. search rules) (λ c κs. search rules) returns)

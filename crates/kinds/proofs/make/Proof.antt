@@ -10,19 +10,19 @@ use Rattle.kinds.proofs.make.Statement.{statement}
 use Rattle.kinds.proofs.make.Tie as tie
 
 pack-requires : tie.Need-pack-requires
-pack-requires c κs = let s = small _ _ _ _ (sym c.before.fits-kind.ensures ∙ c.if1.true) in (omega arith, omega (arith, s), s.1, s.2)
+pack-requires c κs = let s = small _ _ _ _ (sym c.fits_kind.ensures ∙ c.if-fits_kind.true) in (omega arith, omega (arith, s), s.1, s.2)
 
-returns : tie.Need-returns
+returns : tie.Need-returns-then-fits_kind
 returns c =
     λ n.
-    let a = c.before.before.before.args in
-    let y = c.before.before.before.ranges.year in
-    rw (made-is (kind_of a.kind) n (record { year = a.year; month = a.month; day = a.day; hour = a.hour }) y (sym c.before.before.fits-kind.ensures ∙ c.before.if1.true))
+    let a = c.args in
+    let y = c.ranges.year in
+    rw (made-is (kind_of a.kind) n (record { year = a.year; month = a.month; day = a.day; hour = a.hour }) y (sym c.fits_kind.ensures ∙ c.if-fits_kind.true))
     (ap Gives (rw (to_z-of_z y) at c.pack.ensures))
 
-returns-2 : tie.Need-returns-2
+returns-2 : tie.Need-returns-else-fits_kind
 returns-2 c =
-    λ n. let a = c.before.before.args in rw (made-is (kind_of a.kind) n (record { year = a.year; month = a.month; day = a.day; hour = a.hour }) c.before.before.ranges.year (sym c.before.fits-kind.ensures ∙ c.if1.false))
+    λ n. let a = c.args in rw (made-is (kind_of a.kind) n (record { year = a.year; month = a.month; day = a.day; hour = a.hour }) c.ranges.year (sym c.fits_kind.ensures ∙ c.if-fits_kind.false))
 
 pub make_spec : {M : Type 1} → statement M
 make_spec = tie.close (tie.spec (λ c κs. search rules) pack-requires returns returns-2)

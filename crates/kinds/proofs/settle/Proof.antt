@@ -9,7 +9,7 @@ use Rattle.kinds.proofs.settle.Tie as tie
 returns : tie.Need-returns
 unfolding settled
 returns c =
-    λ n. rw (to_z-of_z c.before.before.ranges.year, c.before.settled-hour.ensures) at (c.make.ensures n)
+    λ n. rw (to_z-of_z c.ranges.year, c.settled_hour.ensures) at (c.make.ensures n)
 
-pub settle-spec : {M : Type 1} → statement M
-settle-spec = tie.close (tie.spec (λ c κs. search rules) (λ c κs. search rules) returns)
+pub settle_spec : {M : Type 1} → statement M
+settle_spec = tie.close (tie.spec (λ c κs. search rules) (λ c κs. search rules) returns)

@@ -10,19 +10,19 @@ use Rattle.kinds.proofs.without_mark.Statement.{statement}
 use Rattle.kinds.proofs.without_mark.Tie as tie
 
 -- the fields that were found are those of the date handed in
-found : (c : tie.After-known-told) → let a = c.before.before.before.before.args in
-    handed (kind_of a.kind) (bits_of a.date) ≡ Gives (fields_of c.before.opened.given.0.0)
-found c = sym c.before.before.before.unpack.ensures ∙ ap opened_as c.before.opened.given.1
+found : (c : tie.In-Fields) → let a = c.args in
+    handed (kind_of a.kind) (bits_of a.date) ≡ Gives (fields_of c.in-Fields.fields)
+found c = sym c.unpack-opened.ensures ∙ ap opened_as c.in-Fields.is
 
 pack-requires : tie.Need-pack-requires
 pack-requires c κs = let s = handed-small _ _ _ (found c) in (omega arith, s.0, s.1, s.2)
 
-returns : tie.Need-returns
+returns : tie.Need-returns-in-Fields
 returns c = rw (found c.before) (ap Gives c.pack.ensures)
 
-returns-2 : tie.Need-returns-2
-returns-2 c = rw (sym c.before.before.unpack.ensures ∙ ap opened_as c.enum_told.given.1)
+returns-2 : tie.Need-returns-in-NotOfKind
+returns-2 c = rw (sym c.unpack-opened.ensures ∙ ap opened_as c.in-NotOfKind.is)
 
-pub without-mark-spec : {M : Type 1} → statement M
-without-mark-spec =
+pub without_mark_spec : {M : Type 1} → statement M
+without_mark_spec =
     tie.close (tie.spec (λ c κs. search rules) (λ c. search rules) pack-requires (λ c. search rules) returns returns-2)

@@ -8,9 +8,9 @@ use Rattle.kinds.proofs.word.fields_of.Tie as tie
 
 returns : tie.Need-returns
 returns c =
-    same-fields (held w16 c.before.before.before.struct_told.given.0.1)
-    c.before.before.month-of.ensures c.before.day-of.ensures c.hour-of.ensures
+    same-fields (held w16 c.struct_told-1.given.0.1)
+    c.month_of.ensures c.day_of.ensures c.hour_of.ensures
 
-pub fields-of-spec : {M : Type 1} → statement M
-fields-of-spec =
+pub fields_of_spec : {M : Type 1} → statement M
+fields_of_spec =
     tie.close (tie.spec (λ c κs. search rules) (λ c κs. search rules) (λ c κs. search rules) returns)

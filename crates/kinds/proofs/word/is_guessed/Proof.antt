@@ -9,5 +9,5 @@ use Rattle.kinds.proofs.word.is_guessed.Tie as tie
 returns : tie.Need-returns
 returns c = ap (λ mark. eqb mark guessed_mark) c.mark_of.ensures
 
-pub is-guessed-spec : {M : Type 1} → statement M
-is-guessed-spec = tie.close (tie.spec (λ c κs. search rules) returns)
+pub is_guessed_spec : {M : Type 1} → statement M
+is_guessed_spec = tie.close (tie.spec (λ c κs. search rules) returns)

@@ -7,5 +7,5 @@ use Rattle.kinds.proofs.word.mark_allowed.Tie as tie
 returns : tie.Need-returns
 returns c = sym (allowed-is c.args.mark)
 
-pub mark-allowed-spec : {M : Type 1} → statement M
-mark-allowed-spec = tie.close (tie.spec returns)
+pub mark_allowed_spec : {M : Type 1} → statement M
+mark_allowed_spec = tie.close (tie.spec returns)

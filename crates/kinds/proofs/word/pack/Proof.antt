@@ -10,11 +10,11 @@ use Rattle.kinds.proofs.word.pack.Tie as tie
 returns : tie.Need-returns
 unfolding packed
 returns c =
-    let a = c.before.before.before.before.args in
-    λ i. record { year = held w16 {z = a.fields.year} c.before.before.before.struct_told.given.0.1 i; word = word_of a.mark (fields_of a.fields) }
+    let a = c.args in
+    λ i. record { year = held w16 {z = a.fields.year} c.struct_told-1.given.0.1 i; word = word_of a.mark (fields_of a.fields) }
 
-pub pack-spec : {M : Type 1} → statement M
-pack-spec =
+pub pack_spec : {M : Type 1} → statement M
+pack_spec =
     tie.close
     (tie.spec
     (λ c. search rules)

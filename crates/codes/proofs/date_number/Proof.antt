@@ -10,8 +10,8 @@ use Rattle.codes.proofs.date_number.Tie as tie
 
 returns : tie.Need-returns
 returns c =
-    let d = c.before.before.before.args.date in omega (arith, c.before.twos-complement.ensures ∙ ap twos_complement (held w16 {z = d.year} c.before.before.struct_told.given.0.1))
+    let d = c.args.date in omega (arith, c.twos_complement-year.ensures ∙ ap twos_complement (held w16 {z = d.year} c.struct_told-1.given.0.1))
 
-pub date-number-spec : {M : Type 1} → statement M
-date-number-spec =
+pub date_number_spec : {M : Type 1} → statement M
+date_number_spec =
     tie.close (tie.spec (λ c κs. search rules) (λ c. search rules) (λ c. search rules) (λ c. search rules) (λ c. search rules) returns)

@@ -6,15 +6,15 @@ use Rattle.rules.proofs.OnKinds.CodeLaws.{no_kind}
 use Rattle.codes.proofs.kind_of_code.Statement.{statement}
 use Rattle.codes.proofs.kind_of_code.Tie as tie
 
-pub kind-of-code-spec : {M : Type 1} → statement M
+pub kind_of_code_spec : {M : Type 1} → statement M
 unfolding kind_of_code
-kind-of-code-spec =
+kind_of_code_spec =
     tie.close
     (tie.spec
-    (λ c. sym (ap kind_of_code c.match.keys1))
-    (λ c. sym (ap kind_of_code c.match.keys2))
-    (λ c. sym (ap kind_of_code c.match.keys3))
-    (λ c. sym (ap kind_of_code c.match.keys4))
-    (λ c. sym (ap kind_of_code c.match.keys5))
-    (λ c. sym (ap kind_of_code c.match.keys6))
-    (λ c. sym (no_kind kind_code not_of_kind _ c.match.rest)))
+    (λ c. sym (ap kind_of_code c.in-1.is))
+    (λ c. sym (ap kind_of_code c.in-2.is))
+    (λ c. sym (ap kind_of_code c.in-3.is))
+    (λ c. sym (ap kind_of_code c.in-4.is))
+    (λ c. sym (ap kind_of_code c.in-5.is))
+    (λ c. sym (ap kind_of_code c.in-6.is))
+    (λ c. sym (no_kind kind_code not_of_kind _ c.in_default.in_default-own.rest)))

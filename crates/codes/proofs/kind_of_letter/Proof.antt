@@ -6,15 +6,15 @@ use Rattle.rules.proofs.OnKinds.CodeLaws.{no_kind}
 use Rattle.codes.proofs.kind_of_letter.Statement.{statement}
 use Rattle.codes.proofs.kind_of_letter.Tie as tie
 
-pub kind-of-letter-spec : {M : Type 1} → statement M
+pub kind_of_letter_spec : {M : Type 1} → statement M
 unfolding kind_of_letter
-kind-of-letter-spec =
+kind_of_letter_spec =
     tie.close
     (tie.spec
-    (λ c. sym (ap kind_of_letter c.match.keys1))
-    (λ c. sym (ap kind_of_letter c.match.keys2))
-    (λ c. sym (ap kind_of_letter c.match.keys3))
-    (λ c. sym (ap kind_of_letter c.match.keys4))
-    (λ c. sym (ap kind_of_letter c.match.keys5))
-    (λ c. sym (ap kind_of_letter c.match.keys6))
-    (λ c. sym (no_kind letter unreadable_line _ c.match.rest)))
+    (λ c. sym (ap kind_of_letter c.in-82.is))
+    (λ c. sym (ap kind_of_letter c.in-68.is))
+    (λ c. sym (ap kind_of_letter c.in-72.is))
+    (λ c. sym (ap kind_of_letter c.in-85.is))
+    (λ c. sym (ap kind_of_letter c.in-69.is))
+    (λ c. sym (ap kind_of_letter c.in-86.is))
+    (λ c. sym (no_kind letter unreadable_line _ c.in_default.in_default-own.rest)))

@@ -6,18 +6,18 @@ use Rattle.rules.proofs.OnBook.EntryLaws.{twos-above, twos-below}
 use Rattle.codes.proofs.twos_complement.Statement.{statement}
 use Rattle.codes.proofs.twos_complement.Tie as tie
 
-neg : (c : tie.Then1) → Below w16 c.before.args.year
-neg c = below w16 _ c.before.ranges.year c.if1.true
+neg : (c : tie.Then-year-lt0) → Below w16 c.args.year
+neg c = below w16 _ c.ranges.year c.if-year-lt0.true
 
-non : (c : tie.Else1) → Above w16 c.before.args.year
-non c = above w16 _ c.before.ranges.year c.if1.false
+non : (c : tie.Else-year-lt0) → Above w16 c.args.year
+non c = above w16 _ c.ranges.year c.if-year-lt0.false
 
-pub twos-complement-spec : {M : Type 1} → statement M
-twos-complement-spec =
+pub twos_complement_spec : {M : Type 1} → statement M
+twos_complement_spec =
     tie.close
     (tie.spec
     (λ c. let b = neg c in as-nat w16 b.reads (omega arith))
     (λ c. let b = neg c in rw b.reads (omega arith))
-    (λ c. let b = neg c in rw b.reads (omega (arith, twos-below c.before.args.year (omega arith))))
+    (λ c. let b = neg c in rw b.reads (omega (arith, twos-below c.args.year (omega arith))))
     (λ c. let b = non c in as-nat w16 b.reads (omega arith))
-    (λ c. let b = non c in rw b.reads (omega (arith, twos-above c.before.args.year (omega arith)))))
+    (λ c. let b = non c in rw b.reads (omega (arith, twos-above c.args.year (omega arith)))))

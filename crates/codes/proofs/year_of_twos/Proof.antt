@@ -7,11 +7,11 @@ use borrow.Author.Rules.{rules}
 use Rattle.codes.proofs.year_of_twos.Statement.{statement}
 use Rattle.codes.proofs.year_of_twos.Tie as tie
 
-returns : tie.Need-returns
-returns c = held w16 c.int16.type-inv ∙ c.int16.ensures ∙ sym (year-above _ c.before.if1.true)
+returns : tie.Need-returns-then-twos-lt32768
+returns c = held w16 c.int16.type_inv ∙ c.int16.ensures ∙ sym (year-above _ c.if-twos-lt32768.true)
 
-returns-2 : tie.Need-returns-2
-returns-2 c = held w16 c.int162.type-inv ∙ c.int162.ensures ∙ sym (year-below _ c.before.if1.false)
+returns-2 : tie.Need-returns
+returns-2 c = held w16 c.int16-2.type_inv ∙ c.int16-2.ensures ∙ sym (year-below _ c.if-twos-lt32768.false)
 
-pub year-of-twos-spec : {M : Type 1} → statement M
-year-of-twos-spec = tie.close (tie.spec (λ c κs. search rules) returns (λ c κs. search rules) returns-2)
+pub year_of_twos_spec : {M : Type 1} → statement M
+year_of_twos_spec = tie.close (tie.spec (λ c κs. search rules) returns (λ c κs. search rules) returns-2)

@@ -13,32 +13,32 @@ use Rattle.day_count.proofs.add_days.Statement.{statement}
 use Rattle.day_count.proofs.add_days.Tie as tie
 
 -- the fields that were found are those of the date handed in
-found : (c : tie.After-known-told) → let a = c.before.before.before.before.before.before.args in
-    handed (kind_of a.kind) (bits_of a.date) ≡ Gives (fields_of c.before.opened.given.0.0)
-found c = sym c.before.before.before.unpack.ensures ∙ ap opened_as c.before.opened.given.1
+found : (c : tie.In-Fields) → let a = c.args in
+    handed (kind_of a.kind) (bits_of a.date) ≡ Gives (fields_of c.in-Fields.fields)
+found c = sym c.unpack-opened.ensures ∙ ap opened_as c.in-Fields.is
 
-returns : tie.Need-returns
-returns c = rw (sym c.before.before.unpack.ensures ∙ ap opened_as c.enum_told.given.1)
+returns : tie.Need-returns-in_default
+returns c = rw (sym c.unpack-opened.ensures ∙ ap opened_as c.in_default.is)
 
 moved-requires : tie.Need-moved-requires
 moved-requires c κs =
-    let k = c.before.before in
-    let f = found k in
-    (on-calendar _ _ _ f (sym k.before.before.before.before.before.counts-days.ensures ∙ k.before.before.before.before.if1.true), rw c.before.summed-hour.ensures (hour-low _ _ _ f), omega (arith, c.mark_of.ensures))
+    let k = c in
+    let f = found c.before.before in
+    (on-calendar _ _ _ f (sym k.counts_days.ensures ∙ k.if-counts_days.true), rw c.summed_hour.ensures (hour-low _ _ _ f), omega (arith, c.mark_of.ensures))
 
-returns-2 : tie.Need-returns-2
+returns-2 : tie.Need-returns-in-Fields
 unfolding add_days
 returns-2 c =
-    let k = c.before.before.before in
-    rw (found k, sym k.before.before.before.before.before.counts-days.ensures ∙ k.before.before.before.before.if1.true)
-    (rw (to_z-of_z k.before.before.before.before.before.before.ranges.days, c.before.before.summed-hour.ensures, c.before.mark_of.ensures) at c.moved.ensures)
+    let k = c in
+    rw (found c.before.before.before, sym k.counts_days.ensures ∙ k.if-counts_days.true)
+    (rw (to_z-of_z k.ranges.days, c.summed_hour.ensures, c.mark_of.ensures) at c.moved.ensures)
 
-returns-3 : tie.Need-returns-3
+returns-3 : tie.Need-returns-else-counts_days
 unfolding add_days
-returns-3 c = rw (sym c.before.counts-days.ensures ∙ c.if1.false, lacking _ _)
+returns-3 c = rw (sym c.counts_days.ensures ∙ c.if-counts_days.false, lacking _ _)
 
-pub add-days-spec : {M : Type 1} → statement M
-add-days-spec =
+pub add_days_spec : {M : Type 1} → statement M
+add_days_spec =
     tie.close
     (tie.spec
     (λ c κs. search rules)

@@ -9,9 +9,9 @@ use Rattle.day_count.proofs.between.Tie as tie
 
 returns : tie.Need-returns
 returns c =
-    held w32 c.int32.type-inv ∙ c.int32.ensures ∙ gap_is c.before.before.number_of.ensures c.before.number-of2.ensures
+    held w32 c.int32.type_inv ∙ c.int32.ensures ∙ gap_is c.number_of-n.ensures c.number_of-m.ensures
 
-pub between-spec : {M : Type 1} → statement M
-between-spec =
+pub between_spec : {M : Type 1} → statement M
+between_spec =
     tie.close
     (tie.spec (λ c κs. search rules) (λ c κs. search rules) (λ c. search rules) (λ c. search rules) (λ c κs. search rules) returns)

@@ -7,38 +7,38 @@ use borrow.Author.Rules.{rules}
 use Rattle.day_count.proofs.date_at.Statement.{statement}
 use Rattle.day_count.proofs.date_at.Tie as tie
 
-date-of-requires : tie.Need-date-of-requires
-date-of-requires c κs =
-    let a = c.before.before.before.before.args in
-    omega (arith, judged-range 11960684 11960319 a.up a.dn _ c.before.before.before.judge.ensures c.before.enum-told3.given.1)
+date_of-requires : tie.Need-date_of-requires
+date_of-requires c κs =
+    let a = c.args in
+    omega (arith, judged-range 11960684 11960319 a.up a.dn _ c.judge-verdict.ensures c.in-InRange.is)
 
-returns : tie.Need-returns
+returns : tie.Need-returns-then-up-dn
 returns c =
-    let a = c.before.before.before.before.before.args in
-    let e = judged-days _ a.hour c.before.before.before.before.judge.ensures c.before.before.enum-told3.given.1 in
-    rw (e, ← (side-below a.up a.dn (omega arith))) (ap Gives c.date-of.ensures)
+    let a = c.args in
+    let e = judged-days _ a.hour c.judge-verdict.ensures c.in-InRange.is in
+    rw (e, ← (side-below a.up a.dn (omega arith))) (ap Gives c.date_of.ensures)
 
-date-of-requires-2 : tie.Need-date-of-requires-2
-date-of-requires-2 c κs =
-    let a = c.before.before.before.before.args in
-    omega (arith, judged-range 11960684 11960319 a.up a.dn _ c.before.before.before.judge.ensures c.before.enum-told3.given.1)
+date_of-requires-2 : tie.Need-date_of-requires-in-InRange
+date_of-requires-2 c κs =
+    let a = c.args in
+    omega (arith, judged-range 11960684 11960319 a.up a.dn _ c.judge-verdict.ensures c.in-InRange.is)
 
-returns-2 : tie.Need-returns-2
+returns-2 : tie.Need-returns-in-Overflow
 returns-2 c =
-    rw (judged-days _ c.before.before.before.args.hour c.before.before.judge.ensures c.enum_told.given.1)
+    rw (judged-days _ c.args.hour c.judge-verdict.ensures c.in-Overflow.is)
 
-returns-3 : tie.Need-returns-3
+returns-3 : tie.Need-returns-in-OutOfRange
 returns-3 c =
-    rw (judged-days _ c.before.before.before.args.hour c.before.before.judge.ensures c.enum-told2.given.1)
+    rw (judged-days _ c.args.hour c.judge-verdict.ensures c.in-OutOfRange.is)
 
-returns-4 : tie.Need-returns-4
+returns-4 : tie.Need-returns-else-up-dn
 returns-4 c =
-    let a = c.before.before.before.before.before.args in
-    let e = judged-days _ a.hour c.before.before.before.before.judge.ensures c.before.before.enum-told3.given.1 in
-    rw (e, ← (side-above a.up a.dn (omega arith))) (ap Gives c.date-of2.ensures)
+    let a = c.args in
+    let e = judged-days _ a.hour c.judge-verdict.ensures c.in-InRange.is in
+    rw (e, ← (side-above a.up a.dn (omega arith))) (ap Gives c.date_of-in-InRange.ensures)
 
-pub date-at-spec : {M : Type 1} → statement M
-date-at-spec =
+pub date_at_spec : {M : Type 1} → statement M
+date_at_spec =
     tie.close
     (tie.spec
     (λ c κs. search rules)
@@ -46,9 +46,9 @@ date-at-spec =
     (λ c. search rules)
     (λ c. search rules)
     (λ c. search rules)
-    date-of-requires
+    date_of-requires
     returns
-    date-of-requires-2
+    date_of-requires-2
     returns-2
     returns-3
     returns-4)

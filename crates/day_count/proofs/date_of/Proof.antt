@@ -13,26 +13,26 @@ use Rattle.day_count.proofs.date_of.Statement.{statement}
 use Rattle.day_count.proofs.date_of.Tie as tie
 
 -- bounds, so that the word fits
-small : (c : tie.After-month-day-from-julian) → (c.month-day-from-julian.result.month ≤ 12) × (c.month-day-from-julian.result.day ≤ 31)
+small : (c : tie.After-month_day_from_julian-on) → (c.month_day_from_julian-on.result.month ≤ 12) × (c.month_day_from_julian-on.result.day ≤ 31)
 small c =
-    let d = (c.before.before.args.up + c.before.before.args.dn) % 365 in
+    let d = (c.args.up + c.args.dn) % 365 in
     let x = is-day d (omega arith) in
     let l = length-small (month_day d).month x.month-high in
-    let e = c.month-day-from-julian.ensures in
+    let e = c.month_day_from_julian-on.ensures in
     omega arith
 
 pack-requires : tie.Need-pack-requires
-pack-requires c κs = (omega (arith, c.before.before.requires.4), omega (arith, small c), omega (arith, small c), c.before.before.requires.3)
+pack-requires c κs = (omega (arith, c.requires.4), omega (arith, small c), omega (arith, small c), c.requires.3)
 
 returns : tie.Need-returns
 returns c =
-    let t = c.before in
-    let y = held w16 t.before.int16.type-inv ∙ t.before.int16.ensures in
+    let t = c in
+    let y = held w16 t.int16-year.type_inv ∙ t.int16-year.ensures in
     c.pack.ensures
-    ∙ ap (stored_with t.before.before.args.mark) (date-is _ _ t.before.before.requires.0 _ y t.month-day-from-julian.ensures.0 t.month-day-from-julian.ensures.1)
+    ∙ ap (stored_with t.args.mark) (date-is _ _ t.requires.0 _ y t.month_day_from_julian-on.ensures.0 t.month_day_from_julian-on.ensures.1)
 
-pub date-of-spec : {M : Type 1} → statement M
-date-of-spec =
+pub date_of_spec : {M : Type 1} → statement M
+date_of_spec =
     tie.close
     (tie.spec
     (λ c κs. search rules)

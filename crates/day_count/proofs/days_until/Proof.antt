@@ -14,41 +14,41 @@ use Rattle.day_count.proofs.days_until.Statement.{statement}
 use Rattle.day_count.proofs.days_until.Tie as tie
 
 -- the fields that were found are those of the dates handed in
-first_found : (c : tie.After-known-told) → let a = c.before.before.before.before.before.before.args in
-    handed (kind_of a.kind) (bits_of a.first) ≡ Gives (fields_of c.before.a.given.0.0)
-first_found c = sym c.before.before.before.unpack.ensures ∙ ap opened_as c.before.a.given.1
+first_found : (c : tie.In-Fields) → let a = c.args in
+    handed (kind_of a.kind) (bits_of a.first) ≡ Gives (fields_of c.in-Fields.f)
+first_found c = sym c.unpack-a.ensures ∙ ap opened_as c.in-Fields.is
 
-second-found : (c : tie.After-known-told2) → let a = c.before.before.before.before.before.before.before.before.before.before.args in
-    handed (kind_of a.kind) (bits_of a.second) ≡ Gives (fields_of c.before.b.given.0.0)
-second-found c = sym c.before.before.before.unpack2.ensures ∙ ap opened_as c.before.b.given.1
+second-found : (c : tie.In-Fields-b) → let a = c.args in
+    handed (kind_of a.kind) (bits_of a.second) ≡ Gives (fields_of c.in-Fields-b.g)
+second-found c = sym c.unpack-b.ensures ∙ ap opened_as c.in-Fields-b.is
 
-counts : (c : tie.After-known-told2) → counts_days (kind_of c.before.before.before.before.before.before.before.before.before.before.args.kind) ≡ true
+counts : (c : tie.In-Fields-b) → counts_days (kind_of c.args.kind) ≡ true
 counts c =
-    let t = c.before.before.before.before.before.before.before.before in sym t.before.counts-days.ensures ∙ t.if1.true
+    let t = c in sym t.counts_days.ensures ∙ t.if-counts_days.true
 
-returns : tie.Need-returns
-returns c = rw (sym c.before.before.unpack.ensures ∙ ap opened_as c.enum_told.given.1)
+returns : tie.Need-returns-in_default
+returns c = rw (sym c.unpack-a.ensures ∙ ap opened_as c.in_default.is)
 
-returns-2 : tie.Need-returns-2
+returns-2 : tie.Need-returns-in_default-b
 returns-2 c =
-    rw (first_found c.before.before.before, sym c.before.before.unpack2.ensures ∙ ap opened_as c.enum-told2.given.1)
+    rw (first_found c.before.before, sym c.unpack-b.ensures ∙ ap opened_as c.in_default-b.is)
 
 between-requires : tie.Need-between-requires
 between-requires c κs =
-    (on-calendar _ _ _ (first_found c.before.before.before.before) (counts c), on-calendar _ _ _ (second-found c) (counts c))
+    (on-calendar _ _ _ (first_found c.before.before) (counts c), on-calendar _ _ _ (second-found c) (counts c))
 
-returns-3 : tie.Need-returns-3
+returns-3 : tie.Need-returns-in-Fields-b
 unfolding difference
 returns-3 c =
-    let k = c.before in
-    rw (first_found k.before.before.before.before, second-found k, counts k) (ap Gives (held w32 c.between.type-inv ∙ c.between.ensures))
+    let k = c in
+    rw (first_found c.before.before.before, second-found c.before, counts c.before) (ap Gives (held w32 c.between.type_inv ∙ c.between.ensures))
 
-returns-4 : tie.Need-returns-4
+returns-4 : tie.Need-returns-else-counts_days
 unfolding difference
-returns-4 c = rw (sym c.before.counts-days.ensures ∙ c.if1.false, lacking _ _, lacking _ _)
+returns-4 c = rw (sym c.counts_days.ensures ∙ c.if-counts_days.false, lacking _ _, lacking _ _)
 
-pub days-until-spec : {M : Type 1} → statement M
-days-until-spec =
+pub days_until_spec : {M : Type 1} → statement M
+days_until_spec =
     tie.close
     (tie.spec
     (λ c κs. search rules)

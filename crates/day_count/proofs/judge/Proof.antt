@@ -8,32 +8,32 @@ use borrow.Author.Rules.{rules}
 use Rattle.day_count.proofs.judge.Statement.{statement}
 use Rattle.day_count.proofs.judge.Tie as tie
 
-returns : tie.Need-returns
+returns : tie.Need-returns-then-up-dn
 returns c =
-    let s = c.before.before in let n = sub_ℕ s.args.up s.args.dn in
+    let s = c in let n = sub_ℕ s.args.up s.args.dn in
     λ date. sym (overflows-low _ _ s.requires.2 s.requires.3 date n (rw (up-sub, dn-sub) (omega arith)))
 
-returns-2 : tie.Need-returns-2
+returns-2 : tie.Need-returns-then-up-low
 returns-2 c =
-    let s = c.before.before in let n = sub_ℕ s.args.up s.args.dn in
+    let s = c in let n = sub_ℕ s.args.up s.args.dn in
     λ date. sym (outside_low _ _ s.requires.2 s.requires.3 date n (rw (up-sub, dn-sub) (omega arith)) (rw (up-sub, dn-sub) (omega arith)))
 
-returns-3 : tie.Need-returns-3
+returns-3 : tie.Need-returns-then-dn-up
 returns-3 c =
-    let s = c.before.before.before in let n = sub_ℕ s.args.up s.args.dn in
+    let s = c in let n = sub_ℕ s.args.up s.args.dn in
     λ date. sym (overflows-high _ _ s.requires.2 s.requires.3 date n (rw (up-sub, dn-sub) (omega arith)))
 
-returns-4 : tie.Need-returns-4
+returns-4 : tie.Need-returns-then-dn-high
 returns-4 c =
-    let s = c.before.before.before in let n = sub_ℕ s.args.up s.args.dn in
+    let s = c in let n = sub_ℕ s.args.up s.args.dn in
     λ date. sym (outside_high _ _ s.requires.2 s.requires.3 date n (rw (up-sub, dn-sub) (omega arith)) (rw (up-sub, dn-sub) (omega arith)))
 
-returns-5 : tie.Need-returns-5
+returns-5 : tie.Need-returns
 returns-5 c =
-    let s = c.before.before in let n = sub_ℕ s.args.up s.args.dn in
+    let s = c in let n = sub_ℕ s.args.up s.args.dn in
     λ date. sym (range_gives _ _ s.requires.2 s.requires.3 date n (rw (up-sub, dn-sub) (omega arith), rw (up-sub, dn-sub) (omega arith)))
 
-pub judge-spec : {M : Type 1} → statement M
-judge-spec =
+pub judge_spec : {M : Type 1} → statement M
+judge_spec =
     tie.close
     (tie.spec (λ c. search rules) (λ c. search rules) returns returns-2 (λ c. search rules) (λ c. search rules) returns-3 returns-4 returns-5)

@@ -7,11 +7,11 @@ use Rattle.day_count.proofs.moved.Tie as tie
 
 returns : tie.Need-returns
 returns c =
-    let m = rw (to_z-of_z c.before.before.before.ranges.days) at c.before.halves32.ensures in
-    rw (sum_is c.before.before.number_of.ensures m) at c.date-at.ensures
+    let m = rw (to_z-of_z c.ranges.days) at c.halves32-m.ensures in
+    rw (sum_is c.number_of-n.ensures m) at c.date_at.ensures
 
-pub moved-spec : {M : Type 1} → statement M
-moved-spec =
+pub moved_spec : {M : Type 1} → statement M
+moved_spec =
     tie.close
     (tie.spec
     (λ c κs. search rules)

@@ -9,8 +9,8 @@ use Rattle.day_count.proofs.number_of.Tie as tie
 returns : tie.Need-returns
 unfolding day_number
 returns c =
-    let y = held w16 {z = c.before.before.before.args.date.year} c.before.struct_told.given.0.1 in
-    rw (y, c.before.before.day-of-year.ensures.0) at c.day-number.ensures
+    let y = held w16 {z = c.args.date.year} c.struct_told-1.given.0.1 in
+    rw (y, c.day_of_year-doy.ensures.0) at c.day_number.ensures
 
-pub number-of-spec : {M : Type 1} → statement M
-number-of-spec = tie.close (tie.spec (λ c κs. search rules) (λ c κs. search rules) returns)
+pub number_of_spec : {M : Type 1} → statement M
+number_of_spec = tie.close (tie.spec (λ c κs. search rules) (λ c κs. search rules) returns)

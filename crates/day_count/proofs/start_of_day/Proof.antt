@@ -14,29 +14,29 @@ use Rattle.day_count.proofs.start_of_day.Statement.{statement}
 use Rattle.day_count.proofs.start_of_day.Tie as tie
 
 -- the fields that were found are those of the date handed in
-found : (c : tie.After-known-told) → let a = c.before.before.before.before.before.before.args in
-    handed (kind_of a.kind) (bits_of a.date) ≡ Gives (fields_of c.before.opened.given.0.0)
-found c = sym c.before.before.before.unpack.ensures ∙ ap opened_as c.before.opened.given.1
+found : (c : tie.In-Fields) → let a = c.args in
+    handed (kind_of a.kind) (bits_of a.date) ≡ Gives (fields_of c.in-Fields.on)
+found c = sym c.unpack-opened.ensures ∙ ap opened_as c.in-Fields.is
 
-returns : tie.Need-returns
-returns c = rw (sym c.before.before.unpack.ensures ∙ ap opened_as c.enum_told.given.1)
+returns : tie.Need-returns-in_default
+returns c = rw (sym c.unpack-opened.ensures ∙ ap opened_as c.in_default.is)
 
 pack-requires : tie.Need-pack-requires
 pack-requires c κs = let s = handed-small _ _ _ (found c.before.before) in (omega (arith, c.mark_of.ensures), s.0, s.1, omega arith)
 
-returns-2 : tie.Need-returns-2
+returns-2 : tie.Need-returns-in-Fields
 unfolding start_of_day
 returns-2 c =
-    let k = c.before.before.before in
-    rw (found k, sym k.before.before.before.before.before.has-start.ensures ∙ k.before.before.before.before.if1.true)
-    (ap Gives (rw (held w16 c.before.before.struct_told.given.0.1, c.before.mark_of.ensures) at c.pack.ensures))
+    let k = c in
+    rw (found c.before.before.before, sym k.has_start.ensures ∙ k.if-has_start.true)
+    (ap Gives (rw (held w16 c.struct_told-1.given.0.1, c.mark_of.ensures) at c.pack.ensures))
 
-returns-3 : tie.Need-returns-3
+returns-3 : tie.Need-returns-else-has_start
 unfolding start_of_day
-returns-3 c = rw (sym c.before.has-start.ensures ∙ c.if1.false, lacking _ _)
+returns-3 c = rw (sym c.has_start.ensures ∙ c.if-has_start.false, lacking _ _)
 
-pub start-of-day-spec : {M : Type 1} → statement M
-start-of-day-spec =
+pub start_of_day_spec : {M : Type 1} → statement M
+start_of_day_spec =
     tie.close
     (tie.spec
     (λ c κs. search rules)

@@ -13,32 +13,32 @@ use Rattle.formatter.proofs.Texts.{by-text, by-refusal}
 use Rattle.formatter.proofs.date_fmt.Statement.{statement}
 use Rattle.formatter.proofs.date_fmt.Tie as tie
 
-told : (c : tie.After-opened) → let a = c.before.before.before.before.args in
-    handed (kind_of a.kind) (bits_of a.date) ≡ Gives (fields_of c.opened.given.0.0)
-told c = sym c.before.before.unpack.ensures ∙ ap opened_as c.opened.given.1
+told : (c : tie.In-Fields) → let a = c.args in
+    handed (kind_of a.kind) (bits_of a.date) ≡ Gives (fields_of c.in-Fields.f)
+told c = sym c.unpack-opened.ensures ∙ ap opened_as c.in-Fields.is
 
-put-text-requires : tie.Need-put-text-requires
-put-text-requires c κs =
-    let s = small _ _ _ (told c.before.before.before.before.before.before.before) in (c.before.before.iso-year.ensures.1, s.month, s.day, omega (arith, c.no-hour.ensures.1))
+put_text-requires : tie.Need-put_text-requires
+put_text-requires c κs =
+    let s = small _ _ _ (told c.before.before.before.before.before.before) in (c.iso_year-year.ensures.1, s.month, s.day, omega (arith, c.no_hour.ensures.1))
 
-returns : tie.Need-returns
+returns : tie.Need-returns-then-has_iso_date
 unfolding iso_date_alone
 returns c =
-    let k = kind_of c.before.before.before.before.before.before.before.before.before.before.before.before.before.before.args.kind in let f = fields_of c.before.before.before.before.before.before.before.before.before.before.opened.given.0.0 in
-    by-text (iso_date_alone k) c.before.before.before.before.before.before.before.before.before.before.before.before.before.before.args.out.now _ c.before.before.put-text.result (told c.before.before.before.before.before.before.before.before.before.before)
-    (rw (← c.before.before.before.before.before.before.before.before.has-iso-date.ensures, c.before.before.before.before.before.before.before.if1.true) (ap Gives (sym (date-text f c.before.before.before.before.before.iso-year.result c.before.before.before.no-hour.result (rw (held w16 {z = f.year} c.before.before.before.before.before.before.struct_told.given.0.1) at c.before.before.before.before.before.iso-year.ensures.0) c.before.before.before.no-hour.ensures.0)))) c.before.before.put-text.ensures
+    let k = kind_of c.args.kind in let f = fields_of c.in-Fields.f in
+    by-text (iso_date_alone k) c.args.out.now _ c.put_text.result (told c.before.before.before.before.before.before.before.before.before)
+    (rw (← c.has_iso_date.ensures, c.if-has_iso_date.true) (ap Gives (sym (date-text f c.iso_year-year.result c.no_hour.result (rw (held w16 {z = f.year} c.struct_told-1.given.0.1) at c.iso_year-year.ensures.0) c.no_hour.ensures.0)))) c.put_text.ensures
 
-returns-2 : tie.Need-returns-2
+returns-2 : tie.Need-returns-else-has_iso_date
 unfolding iso_date_alone
 returns-2 c =
-    by-refusal _ c.before.before.before.before.before.before.before.args.out.now (rw (told c.before.before.before, ← c.before.has-iso-date.ensures, c.if1.false))
+    by-refusal _ c.args.out.now (rw (told c.before.before, ← c.has_iso_date.ensures, c.if-has_iso_date.false))
 
-returns-3 : tie.Need-returns-3
+returns-3 : tie.Need-returns-in-NotOfKind
 returns-3 c =
-    by-refusal _ c.before.before.before.before.args.out.now (rw (← c.before.before.unpack.ensures, c.enum_told.given.1))
+    by-refusal _ c.args.out.now (rw (← c.unpack-opened.ensures, c.in-NotOfKind.is))
 
-pub date-fmt-spec : {M : Type 1} → statement M
-date-fmt-spec =
+pub date_fmt_spec : {M : Type 1} → statement M
+date_fmt_spec =
     tie.close
     (tie.spec
     (λ c κs. search rules)
@@ -46,7 +46,7 @@ date-fmt-spec =
     (λ c κs. search rules)
     (λ c κs. search rules)
     (λ c κs. search rules)
-    put-text-requires
+    put_text-requires
     (λ c. search rules)
     returns
     (λ c. search rules)

@@ -13,26 +13,26 @@ use Rattle.formatter.proofs.Texts.{by-text, by-refusal}
 use Rattle.formatter.proofs.game_fmt.Statement.{statement}
 use Rattle.formatter.proofs.game_fmt.Tie as tie
 
-told : (c : tie.After-opened) → let a = c.before.before.before.before.args in
-    handed (kind_of a.kind) (bits_of a.date) ≡ Gives (fields_of c.opened.given.0.0)
-told c = sym c.before.before.unpack.ensures ∙ ap opened_as c.opened.given.1
+told : (c : tie.In-Fields) → let a = c.args in
+    handed (kind_of a.kind) (bits_of a.date) ≡ Gives (fields_of c.in-Fields.f)
+told c = sym c.unpack-opened.ensures ∙ ap opened_as c.in-Fields.is
 
-put-text-requires : tie.Need-put-text-requires
-put-text-requires c κs =
-    let s = small _ _ _ (told c.before.before.before.before.before.before) in (c.before.before.before.plain-year.ensures.1, s.month, s.day, omega (arith, s.hour, c.before.before.dotted-hour.ensures.1))
+put_text-requires : tie.Need-put_text-requires
+put_text-requires c κs =
+    let s = small _ _ _ (told c.before.before.before.before.before) in (c.plain_year-year.ensures.1, s.month, s.day, omega (arith, s.hour, c.dotted_hour-hour.ensures.1))
 
-returns : tie.Need-returns
+returns : tie.Need-returns-in-Fields
 returns c =
-    let k = kind_of c.before.before.before.before.before.before.before.before.before.before.before.before.before.args.kind in let f = fields_of c.before.before.before.before.before.before.before.before.before.opened.given.0.0 in
-    by-text (λ f. Gives (dotted k f)) c.before.before.before.before.before.before.before.before.before.before.before.before.before.args.out.now _ c.before.before.put-text.result (told c.before.before.before.before.before.before.before.before.before)
-    (ap Gives (sym (dotted-pieces k f c.before.before.before.before.before.before.plain-year.result c.before.before.before.dotted-style.result c.before.before.before.before.before.dotted-hour.result (rw (held w16 {z = f.year} c.before.before.before.before.before.before.before.struct_told.given.0.1) at c.before.before.before.before.before.before.plain-year.ensures.0) c.before.before.before.dotted-style.ensures c.before.before.before.before.before.dotted-hour.ensures.0))) c.before.before.put-text.ensures
+    let k = kind_of c.args.kind in let f = fields_of c.in-Fields.f in
+    by-text (λ f. Gives (dotted k f)) c.args.out.now _ c.put_text.result (told c.before.before.before.before.before.before.before.before)
+    (ap Gives (sym (dotted-pieces k f c.plain_year-year.result c.dotted_style.result c.dotted_hour-hour.result (rw (held w16 {z = f.year} c.struct_told-1.given.0.1) at c.plain_year-year.ensures.0) c.dotted_style.ensures c.dotted_hour-hour.ensures.0))) c.put_text.ensures
 
-returns-2 : tie.Need-returns-2
+returns-2 : tie.Need-returns-in-NotOfKind
 returns-2 c =
-    by-refusal _ c.before.before.before.before.args.out.now (rw (← c.before.before.unpack.ensures, c.enum_told.given.1))
+    by-refusal _ c.args.out.now (rw (← c.unpack-opened.ensures, c.in-NotOfKind.is))
 
-pub game-fmt-spec : {M : Type 1} → statement M
-game-fmt-spec =
+pub game_fmt_spec : {M : Type 1} → statement M
+game_fmt_spec =
     tie.close
     (tie.spec
     (λ c κs. search rules)
@@ -40,7 +40,7 @@ game-fmt-spec =
     (λ c κs. search rules)
     (λ c κs. search rules)
     (λ c κs. search rules)
-    put-text-requires
+    put_text-requires
     (λ c. search rules)
     (λ c. search rules)
     returns

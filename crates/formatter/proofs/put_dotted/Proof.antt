@@ -7,20 +7,20 @@ use Rattle.formatter.proofs.Texts.{fits}
 use Rattle.formatter.proofs.put_dotted.Statement.{statement}
 use Rattle.formatter.proofs.put_dotted.Tie as tie
 
-returns : tie.Need-returns
+returns : tie.Need-returns-in-Length
 returns c =
-    let w = fits (kind_of c.before.before.before.before.before.before.before.before.args.kind) (bits_of c.before.before.before.before.before.before.before.before.args.date) (dotted (kind_of c.before.before.before.before.before.before.before.before.args.kind)) c.before.before.before.before.before.before.before.before.args.out.now c.before.before.before.before.before.game-fmt.new.1.1.0 c.before.before.before.before.before.game-fmt.result c.before.before.before.before.before.before.before.before.requires.1 c.before.before.before.before.before.before.before.before.requires.0 (λ p. (text-lengths (kind_of c.before.before.before.before.before.before.before.before.args.kind) _ p).dotted-length.1) c.before.before.before.before.before.game-fmt.ensures in (rw c.before.text.given.1 at w.answered, w.holds)
+    let w = fits (kind_of c.args.kind) (bits_of c.args.date) (dotted (kind_of c.args.kind)) c.args.out.now c.game_fmt-text.new.out c.game_fmt-text.result c.requires.1 c.requires.0 (λ p. (text-lengths (kind_of c.args.kind) _ p).dotted-length.1) c.game_fmt-text.ensures in (rw c.in-Length.is at w.answered, w.holds)
 
-returns-2 : tie.Need-returns-2
+returns-2 : tie.Need-returns-in-NotOfKind
 returns-2 c =
-    let w = fits (kind_of c.before.before.before.before.before.before.before.args.kind) (bits_of c.before.before.before.before.before.before.before.args.date) (dotted (kind_of c.before.before.before.before.before.before.before.args.kind)) c.before.before.before.before.before.before.before.args.out.now c.before.before.before.before.game-fmt.new.1.1.0 c.before.before.before.before.game-fmt.result c.before.before.before.before.before.before.before.requires.1 c.before.before.before.before.before.before.before.requires.0 (λ p. (text-lengths (kind_of c.before.before.before.before.before.before.before.args.kind) _ p).dotted-length.1) c.before.before.before.before.game-fmt.ensures in (rw c.enum_told.given.1 at w.answered, w.holds)
+    let w = fits (kind_of c.args.kind) (bits_of c.args.date) (dotted (kind_of c.args.kind)) c.args.out.now c.game_fmt-text.new.out c.game_fmt-text.result c.requires.1 c.requires.0 (λ p. (text-lengths (kind_of c.args.kind) _ p).dotted-length.1) c.game_fmt-text.ensures in (rw c.in-NotOfKind.is at w.answered, w.holds)
 
-returns-3 : tie.Need-returns-3
+returns-3 : tie.Need-returns-in-Short
 returns-3 c =
-    let w = fits (kind_of c.before.before.before.before.before.before.before.args.kind) (bits_of c.before.before.before.before.before.before.before.args.date) (dotted (kind_of c.before.before.before.before.before.before.before.args.kind)) c.before.before.before.before.before.before.before.args.out.now c.before.before.before.before.game-fmt.new.1.1.0 c.before.before.before.before.game-fmt.result c.before.before.before.before.before.before.before.requires.1 c.before.before.before.before.before.before.before.requires.0 (λ p. (text-lengths (kind_of c.before.before.before.before.before.before.before.args.kind) _ p).dotted-length.1) c.before.before.before.before.game-fmt.ensures in (rw c.enum-told2.given.1 at w.answered, w.holds)
+    let w = fits (kind_of c.args.kind) (bits_of c.args.date) (dotted (kind_of c.args.kind)) c.args.out.now c.game_fmt-text.new.out c.game_fmt-text.result c.requires.1 c.requires.0 (λ p. (text-lengths (kind_of c.args.kind) _ p).dotted-length.1) c.game_fmt-text.ensures in (rw c.in-Short.is at w.answered, w.holds)
 
-pub put-dotted-spec : {M : Type 1} → statement M
-put-dotted-spec =
+pub put_dotted_spec : {M : Type 1} → statement M
+put_dotted_spec =
     tie.close
     (tie.spec
     (λ c κs. search rules)

@@ -9,7 +9,7 @@ use Rattle.number.proofs.decode.Tie as tie
 returns : tie.Need-returns
 unfolding decoded
 returns c =
-    rw (to_z-of_z c.before.before.ranges.year, c.before.decoded-hour.ensures) at (c.settle-day.ensures not_number)
+    rw (to_z-of_z c.ranges.year, c.decoded_hour.ensures) at (c.settle_day.ensures not_number)
 
-pub decode-spec : {M : Type 1} → statement M
-decode-spec = tie.close (tie.spec (λ c κs. search rules) (λ c κs. search rules) returns)
+pub decode_spec : {M : Type 1} → statement M
+decode_spec = tie.close (tie.spec (λ c κs. search rules) (λ c κs. search rules) returns)

@@ -3,11 +3,11 @@ use borrow.Author.Rules.{rules}
 use Rattle.number.proofs.decoded_hour.Statement.{statement}
 use Rattle.number.proofs.decoded_hour.Tie as tie
 
-pub decoded-hour-spec : {M : Type 1} → statement M
-decoded-hour-spec =
+pub decoded_hour_spec : {M : Type 1} → statement M
+decoded_hour_spec =
     tie.close
     (tie.spec
     (λ c. search rules) (λ c. search rules) (λ c. search rules) (λ c. search rules) (λ c. search rules) (λ c. search rules)
     (λ c. search rules) (λ c. search rules) (λ c. search rules)
-    (λ c. rw c.enum-told3.given.1)
+    (λ c. rw c.in-Hour.is)
     (λ c. search rules) (λ c. search rules) (λ c. search rules))

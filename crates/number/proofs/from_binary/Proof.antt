@@ -6,8 +6,8 @@ use mir.Facts.{to_z-of_z}
 use Rattle.number.proofs.from_binary.Statement.{statement}
 use Rattle.number.proofs.from_binary.Tie as tie
 
-pub from-binary-spec : {M : Type 1} → statement M
-from-binary-spec =
+pub from_binary_spec : {M : Type 1} → statement M
+from_binary_spec =
     tie.close
     (tie.spec
     (λ c. search rules) (λ c κs. search rules)
@@ -16,9 +16,9 @@ from-binary-spec =
     (λ c. search rules)
     (λ c. search rules) (λ c κs. search rules)
     (λ c. search rules) (λ c κs. search rules)
-    (λ c. rw c.before.enum_told.given.1 (rw (to_z-of_z c.before.before.before.ranges.s) at c.read_as.ensures))
-    (λ c. rw c.before.enum-told2.given.1 (rw (to_z-of_z c.before.before.before.ranges.s) at c.read-as2.ensures))
-    (λ c. rw c.before.enum-told3.given.1 (rw (to_z-of_z c.before.before.before.ranges.s) at c.read-as3.ensures))
-    (λ c. absurd (subst T (sym (rw c.enum-told4.given.1 at c.before.before.requires)) tt))
-    (λ c. rw c.before.enum-told5.given.1 (rw (to_z-of_z c.before.before.before.ranges.s) at c.read-as4.ensures))
-    (λ c. rw c.before.enum-told6.given.1 (rw (to_z-of_z c.before.before.before.ranges.s) at c.read-as5.ensures)))
+    (λ c. rw c.in-Raw.is (rw (to_z-of_z c.ranges.s) at c.read_as.ensures))
+    (λ c. rw c.in-Date.is (rw (to_z-of_z c.ranges.s) at c.read_as-in-Date.ensures))
+    (λ c. rw c.in-Hour.is (rw (to_z-of_z c.ranges.s) at c.read_as-in-Hour.ensures))
+    (λ c. absurd (subst T (sym (rw c.in-Uniform.is at c.requires)) tt))
+    (λ c. rw c.in-Eu5.is (rw (to_z-of_z c.ranges.s) at c.read_as-in-Eu5.ensures))
+    (λ c. rw c.in-Vic3.is (rw (to_z-of_z c.ranges.s) at c.read_as-in-Vic3.ensures)))

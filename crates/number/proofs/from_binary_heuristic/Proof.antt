@@ -9,14 +9,14 @@ use Rattle.number.proofs.GuessLaws.{early}
 use Rattle.number.proofs.from_binary_heuristic.Statement.{statement}
 use Rattle.number.proofs.from_binary_heuristic.Tie as tie
 
-returns : tie.Need-returns
+returns : tie.Need-returns-then-is_early
 returns c =
-    let s = c.before.before in
-    let l = ltb-true _ _ (sym (rw (to_z-of_z s.ranges.s) at c.before.is-early.ensures) ∙ c.if1.true) in
+    let s = c in
+    let l = ltb-true _ _ (sym (rw (to_z-of_z s.ranges.s) at c.is_early.ensures) ∙ c.if-is_early.true) in
     rw (early s.args.s (kind_of s.args.kind) s.requires l)
 
-pub from-binary-heuristic-spec : {M : Type 1} → statement M
-from-binary-heuristic-spec =
+pub from_binary_heuristic_spec : {M : Type 1} → statement M
+from_binary_heuristic_spec =
     tie.close
     (tie.spec
     (λ c κs. search rules)
@@ -27,9 +27,9 @@ from-binary-heuristic-spec =
     (λ c. search rules)
     (λ c. search rules) (λ c κs. search rules)
     (λ c. search rules) (λ c κs. search rules)
-    (λ c. absurd (subst T (sym (rw c.enum_told.given.1 at c.before.before.before.before.requires)) tt))
-    (λ c. rw c.before.enum-told2.given.1 (rw (to_z-of_z c.before.before.before.before.before.ranges.s) at c.guess-as.ensures))
-    (λ c. rw c.before.enum-told3.given.1 (rw (to_z-of_z c.before.before.before.before.before.ranges.s) at c.guess-as2.ensures))
-    (λ c. absurd (subst T (sym (rw c.enum-told4.given.1 at c.before.before.before.before.requires)) tt))
-    (λ c. rw c.before.enum-told5.given.1 (rw (to_z-of_z c.before.before.before.before.before.ranges.s) at c.guess-as3.ensures))
-    (λ c. rw c.before.enum-told6.given.1 (rw (to_z-of_z c.before.before.before.before.before.ranges.s) at c.guess-as4.ensures)))
+    (λ c. absurd (subst T (sym (rw c.in-Raw.is at c.requires)) tt))
+    (λ c. rw c.in-Date.is (rw (to_z-of_z c.ranges.s) at c.guess_as.ensures))
+    (λ c. rw c.in-Hour.is (rw (to_z-of_z c.ranges.s) at c.guess_as-in-Hour.ensures))
+    (λ c. absurd (subst T (sym (rw c.in-Uniform.is at c.requires)) tt))
+    (λ c. rw c.in-Eu5.is (rw (to_z-of_z c.ranges.s) at c.guess_as-in-Eu5.ensures))
+    (λ c. rw c.in-Vic3.is (rw (to_z-of_z c.ranges.s) at c.guess_as-in-Vic3.ensures)))

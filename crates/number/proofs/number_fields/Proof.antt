@@ -12,33 +12,33 @@ use Rattle.number.proofs.Laws.{none, some, below}
 use Rattle.number.proofs.number_fields.Statement.{statement}
 use Rattle.number.proofs.number_fields.Tie as tie
 
-got : (c : tie.After-halves32) → Halved 2147483647 c.before.args.s c.halves32.result.up c.halves32.result.dn
-got c = rw (to_z-of_z c.before.ranges.s) at c.halves32.ensures
+got : (c : tie.After-halves32-h) → Halved 2147483647 c.args.s c.halves32-h.result.up c.halves32-h.result.dn
+got c = rw (to_z-of_z c.ranges.s) at c.halves32-h.ensures
 
-returns : tie.Need-returns
+returns : tie.Need-returns-then-d-gt0-2
 returns c = (λ n. none n (got c.before.before) (λ t. omega arith), omega arith)
 
-returns-2 : tie.Need-returns-2
+returns-2 : tie.Need-returns-then-d-gt-LEAST_BELOW
 returns-2 c = (λ n. none n (got c.before.before.before) (λ t. omega (arith, (got c.before.before.before).one)), omega arith)
 
-returns-3 : tie.Need-returns-3
+returns-3 : tie.Need-returns-then-d-gt0
 returns-3 c =
     let g = got c.before.before.before.before in
-    (λ n. below n g c.before.before.before.if1.true (record { hour = omega arith; day = omega arith; low = omega arith; high = omega (arith, g.one) }) (held w16 c.int16.type-inv ∙ c.int16.ensures), omega arith)
+    (λ n. below n g c.if-d-gt0.true (record { hour = omega arith; day = omega arith; low = omega arith; high = omega (arith, g.one) }) (held w16 c.int16.type_inv ∙ c.int16.ensures), omega arith)
 
-returns-4 : tie.Need-returns-4
+returns-4 : tie.Need-returns-then-u-gt-GREATEST
 returns-4 c = (λ n. none n (got c.before.before) (λ t. omega arith), omega arith)
 
-returns-5 : tie.Need-returns-5
+returns-5 : tie.Need-returns
 returns-5 c =
-    let k = c.before.before.before.before in
-    let g = got k in
-    let none-down : k.halves32.result.dn ≡ 0 = omega arith in
-    let year : sub_ℕ (k.halves32.result.up / 8760) 5000 ≡ sub_ℕ (k.halves32.result.up / 8760) (k.halves32.result.dn / 8760 + 5000) = rw none-down in
-    (λ n. some n g (record { hour = omega arith; day = omega arith; low = omega arith; high = omega arith }) (held w16 c.int162.type-inv ∙ (c.int162.ensures ∙ year)) c.before.month-day-from-julian.ensures.0 c.before.month-day-from-julian.ensures.1, omega arith)
+    let k = c in
+    let g = got c.before.before.before.before in
+    let none-down : k.halves32-h.result.dn ≡ 0 = omega arith in
+    let year : sub_ℕ (k.halves32-h.result.up / 8760) 5000 ≡ sub_ℕ (k.halves32-h.result.up / 8760) (k.halves32-h.result.dn / 8760 + 5000) = rw none-down in
+    (λ n. some n g (record { hour = omega arith; day = omega arith; low = omega arith; high = omega arith }) (held w16 c.int16-2.type_inv ∙ (c.int16-2.ensures ∙ year)) c.month_day_from_julian-on.ensures.0 c.month_day_from_julian-on.ensures.1, omega arith)
 
-pub number-fields-spec : {M : Type 1} → statement M
-number-fields-spec =
+pub number_fields_spec : {M : Type 1} → statement M
+number_fields_spec =
     tie.close
     (tie.spec
     (λ c κs. search rules)

@@ -14,45 +14,45 @@ use Rattle.number.proofs.read_as.Statement.{statement}
 use Rattle.number.proofs.read_as.Tie as tie
 
 -- what was answered of the number's fields is what it has
-told : (c : tie.After-number-fields) → numbered_as not_number c.number-fields.result ≡ number_fields not_number c.before.args.s
-told c = rw (to_z-of_z c.before.ranges.s) at (c.number-fields.ensures.0 not_number)
+told : (c : tie.After-number_fields) → numbered_as not_number c.number_fields.result ≡ number_fields not_number c.args.s
+told c = rw (to_z-of_z c.ranges.s) at (c.number_fields.ensures.0 not_number)
 
-returns : tie.Need-returns
+returns : tie.Need-returns-in_default
 returns c =
-    let n = c.before.before in
-    let a = n.before in
-    rw (read_none (kind_of a.args.kind) a.args.s a.requires (sym (told n) ∙ ap (numbered_as not_number) c.enum_told.given.1))
+    let n = c in
+    let a = c in
+    rw (read_none (kind_of a.args.kind) a.args.s a.requires (sym (told c.before) ∙ ap (numbered_as not_number) c.in_default.is))
 
-decode-requires : tie.Need-decode-requires
+decode-requires : tie.Need-decode-made-requires
 decode-requires c κs =
-    let f = c.before.before in
-    let n = f.before.before in
-    let a = n.before in
-    let e = f.f.given.1 in
-    ((omega arith, omega (arith, ap hour_in e, n.number-fields.ensures.1)), day-read (kind_of a.args.kind) not_number a.args.s _ a.requires (sym (told n) ∙ ap (numbered_as not_number) e))
+    let f = c in
+    let n = c in
+    let a = c in
+    let e = f.in-Fields.is in
+    ((omega arith, omega (arith, ap hour_in e, n.number_fields.ensures.1)), day-read (kind_of a.args.kind) not_number a.args.s _ a.requires (sym (told c.before.before) ∙ ap (numbered_as not_number) e))
 
-returns-2 : tie.Need-returns-2
+returns-2 : tie.Need-returns-in-Date
 returns-2 c =
-    let d = c.before.before.before in
-    let f = d.before.before.before in
-    let n = f.before.before in
-    let a = n.before in
-    let e = f.f.given.0.0 in
-    rw (read_some (kind_of a.args.kind) a.args.s (fields_of e) a.requires (sym (told n) ∙ ap (numbered_as not_number) f.f.given.1))
-    (ap (made_as not_number) (sym c.before.made.given.1) ∙ (rw (held w16 {z = e.year} d.before.struct_told.given.0.1) at d.decode.ensures))
+    let d = c in
+    let f = c in
+    let n = c in
+    let a = c in
+    let e = f.in-Fields.f in
+    rw (read_some (kind_of a.args.kind) a.args.s (fields_of e) a.requires (sym (told c.before.before.before.before) ∙ ap (numbered_as not_number) f.in-Fields.is))
+    (ap (made_as not_number) (sym c.in-Date.is) ∙ (rw (held w16 {z = e.year} d.struct_told-1.given.0.1) at d.decode-made.ensures))
 
-returns-3 : tie.Need-returns-3
+returns-3 : tie.Need-returns-in-None
 returns-3 c =
-    let d = c.before.before in
-    let f = d.before.before.before in
-    let n = f.before.before in
-    let a = n.before in
-    let e = f.f.given.0.0 in
-    rw (read_some (kind_of a.args.kind) a.args.s (fields_of e) a.requires (sym (told n) ∙ ap (numbered_as not_number) f.f.given.1))
-    (ap (made_as not_number) (sym c.enum-told2.given.1) ∙ (rw (held w16 {z = e.year} d.before.struct_told.given.0.1) at d.decode.ensures))
+    let d = c in
+    let f = c in
+    let n = c in
+    let a = c in
+    let e = f.in-Fields.f in
+    rw (read_some (kind_of a.args.kind) a.args.s (fields_of e) a.requires (sym (told c.before.before.before.before) ∙ ap (numbered_as not_number) f.in-Fields.is))
+    (ap (made_as not_number) (sym c.in-None.is) ∙ (rw (held w16 {z = e.year} d.struct_told-1.given.0.1) at d.decode-made.ensures))
 
-pub read-as-spec : {M : Type 1} → statement M
-read-as-spec =
+pub read_as_spec : {M : Type 1} → statement M
+read_as_spec =
     tie.close
     (tie.spec
     (λ c κs. search rules)

@@ -13,24 +13,24 @@ use Rattle.number.proofs.to_binary.Tie as tie
 given : {y z : ℤ} → y ≡ z → ◌≡◌ {A = Answer ℤ} (Gives y) (Gives z)
 given e = ap Gives e
 
-returns : tie.Need-returns
+returns : tie.Need-returns-in_default
 returns c =
-    sym (write-refused (kind_of c.before.before.before.before.before.args.kind) (bits_of c.before.before.before.before.before.args.date) (sym c.before.before.unpack.ensures ∙ ap opened_as c.enum_told.given.1))
+    sym (write-refused (kind_of c.args.kind) (bits_of c.args.date) (sym c.unpack.ensures ∙ ap opened_as c.in_default.is))
 
-day-of-year-requires : tie.Need-day-of-year-requires
-day-of-year-requires c κs =
-    calendar-day (kind_of c.before.before.before.before.before.before.args.kind) (bits_of c.before.before.before.before.before.before.args.date) (fields_of c.before.f.given.0.0) (sym c.before.before.before.before.before.writes-numbers.ensures ∙ c.before.before.before.before.if1.true) (sym c.before.before.before.unpack.ensures ∙ ap opened_as c.before.f.given.1)
+day_of_year-requires : tie.Need-day_of_year-doy-requires
+day_of_year-requires c κs =
+    calendar-day (kind_of c.args.kind) (bits_of c.args.date) (fields_of c.in-Fields.f) (sym c.writes_numbers.ensures ∙ c.if-writes_numbers.true) (sym c.unpack.ensures ∙ ap opened_as c.in-Fields.is)
 
-returns-2 : tie.Need-returns-2
+returns-2 : tie.Need-returns-in-Fields
 returns-2 c =
-    let e = c.before.before.before.before.before.f.given.0.0 in rw (write-some (kind_of c.before.before.before.before.before.before.before.before.before.before.args.kind) (bits_of c.before.before.before.before.before.before.before.before.before.before.args.date) (fields_of e) (sym c.before.before.before.before.before.before.before.before.before.writes-numbers.ensures ∙ c.before.before.before.before.before.before.before.before.if1.true) (sym c.before.before.before.before.before.before.before.unpack.ensures ∙ ap opened_as c.before.before.before.before.before.f.given.1)) (given (held w32 c.to-binary.type-inv ∙ (rw (held w16 {z = e.year} c.before.struct_told.given.0.1, c.before.before.before.day-of-year.ensures.0, c.before.before.written-hour.ensures) at c.to-binary.ensures)))
+    let e = c.in-Fields.f in rw (write-some (kind_of c.args.kind) (bits_of c.args.date) (fields_of e) (sym c.writes_numbers.ensures ∙ c.if-writes_numbers.true) (sym c.unpack.ensures ∙ ap opened_as c.in-Fields.is)) (given (held w32 c.to_binary.type_inv ∙ (rw (held w16 {z = e.year} c.struct_told-1.given.0.1, c.day_of_year-doy.ensures.0, c.written_hour-hour.ensures) at c.to_binary.ensures)))
 
-returns-3 : tie.Need-returns-3
+returns-3 : tie.Need-returns-else-writes_numbers
 returns-3 c =
-    sym (write-lacks (kind_of c.before.before.args.kind) (bits_of c.before.before.args.date) (sym c.before.writes-numbers.ensures ∙ c.if1.false))
+    sym (write-lacks (kind_of c.args.kind) (bits_of c.args.date) (sym c.writes_numbers.ensures ∙ c.if-writes_numbers.false))
 
-pub to-binary-spec : {M : Type 1} → statement M
-to-binary-spec =
+pub to_binary_spec : {M : Type 1} → statement M
+to_binary_spec =
     tie.close
     (tie.spec
     (λ c κs. search rules)
@@ -38,7 +38,7 @@ to-binary-spec =
     (λ c. search rules)
     (λ c. search rules)
     returns
-    day-of-year-requires
+    day_of_year-requires
     (λ c κs. search rules)
     (λ c κs. search rules)
     returns-2

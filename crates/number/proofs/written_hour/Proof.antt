@@ -4,13 +4,13 @@ use native.Mathlib.Omega.{arith}
 use Rattle.number.proofs.written_hour.Statement.{statement}
 use Rattle.number.proofs.written_hour.Tie as tie
 
-pub written-hour-spec : {M : Type 1} → statement M
-written-hour-spec =
+pub written_hour_spec : {M : Type 1} → statement M
+written_hour_spec =
     tie.close
     (tie.spec
     (λ c. search rules) (λ c. search rules) (λ c. search rules)
-    (λ c. rw c.before.enum-told3.given.1 (omega arith))
+    (λ c. rw c.in-Hour.is (omega arith))
     (λ c. search rules) (λ c. search rules) (λ c. search rules)
     (λ c. search rules) (λ c. search rules)
-    (λ c. rw c.before.enum-told3.given.1)
+    (λ c. rw c.in-Hour.is)
     (λ c. search rules) (λ c. search rules) (λ c. search rules))

@@ -4,11 +4,11 @@ use lib.Dec.{lit≤}
 use Rattle.formatter.proofs.pieces.hour_length.Statement.{statement}
 use Rattle.formatter.proofs.pieces.hour_length.Tie as tie
 
-returns : tie.Need-returns
-returns c = (rw c.before.if1.true c.separated-length.ensures.0, c.separated-length.ensures.1)
+returns : tie.Need-returns-then-hour
+returns c = (rw c.if-hour.true c.separated_length.ensures.0, c.separated_length.ensures.1)
 
-returns-2 : tie.Need-returns-2
-returns-2 c = (rw c.if1.false, lit≤ tt)
+returns-2 : tie.Need-returns
+returns-2 c = (rw c.if-hour.false, lit≤ tt)
 
-pub hour-length-spec : {M : Type 1} → statement M
-hour-length-spec = tie.close (tie.spec (λ c κs. search rules) returns returns-2)
+pub hour_length_spec : {M : Type 1} → statement M
+hour_length_spec = tie.close (tie.spec (λ c κs. search rules) returns returns-2)

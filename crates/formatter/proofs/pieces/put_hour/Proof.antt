@@ -3,15 +3,15 @@ use borrow.Author.Rules.{rules}
 use Rattle.formatter.proofs.pieces.put_hour.Statement.{statement}
 use Rattle.formatter.proofs.pieces.put_hour.Tie as tie
 
-put-separated-requires : tie.Need-put-separated-requires
-put-separated-requires c κs =
-    (c.before.before.before.requires.0, rw c.before.if1.true at c.before.before.before.requires.1)
+put_separated-requires : tie.Need-put_separated-requires
+put_separated-requires c κs =
+    (c.requires.0, rw c.if-hour.true at c.requires.1)
 
-returns : tie.Need-returns
-returns c = rw c.before.before.before.before.if1.true c.before.before.put-separated.ensures
+returns : tie.Need-returns-then-hour
+returns c = rw c.if-hour.true c.put_separated.ensures
 
-returns-2 : tie.Need-returns-2
-returns-2 c = rw c.if1.false
+returns-2 : tie.Need-returns-else-hour
+returns-2 c = rw c.if-hour.false
 
-pub put-hour-spec : {M : Type 1} → statement M
-put-hour-spec = tie.close (tie.spec put-separated-requires (λ c. search rules) returns returns-2)
+pub put_hour_spec : {M : Type 1} → statement M
+put_hour_spec = tie.close (tie.spec put_separated-requires (λ c. search rules) returns returns-2)

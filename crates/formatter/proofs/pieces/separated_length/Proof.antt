@@ -5,11 +5,11 @@ use Rattle.rules.proofs.OnSpelling.DecimalLaws.{filled-two}
 use Rattle.formatter.proofs.pieces.separated_length.Statement.{statement}
 use Rattle.formatter.proofs.pieces.separated_length.Tie as tie
 
-returns : tie.Need-returns
-returns c = (rw (c.before.takes_two.ensures, c.if1.true, filled-two _ c.before.before.requires), lit≤ tt)
+returns : tie.Need-returns-then-takes_two
+returns c = (rw (c.takes_two.ensures, c.if-takes_two.true, filled-two _ c.requires), lit≤ tt)
 
-returns-2 : tie.Need-returns-2
-returns-2 c = (rw (c.before.takes_two.ensures, c.if1.false), lit≤ tt)
+returns-2 : tie.Need-returns
+returns-2 c = (rw (c.takes_two.ensures, c.if-takes_two.false), lit≤ tt)
 
-pub separated-length-spec : {M : Type 1} → statement M
-separated-length-spec = tie.close (tie.spec (λ c κs. search rules) returns returns-2)
+pub separated_length_spec : {M : Type 1} → statement M
+separated_length_spec = tie.close (tie.spec (λ c κs. search rules) returns returns-2)

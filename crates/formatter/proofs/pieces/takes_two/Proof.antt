@@ -3,14 +3,14 @@ use Rattle.formatter.proofs.PieceLaws.{separated-wide, separated-two, separated-
 use Rattle.formatter.proofs.pieces.takes_two.Statement.{statement}
 use Rattle.formatter.proofs.pieces.takes_two.Tie as tie
 
-returns : tie.Need-returns
-returns c = separated-wide _ _ c.if1.true
+returns : tie.Need-returns-then-style
+returns c = separated-wide _ _ c.if-style.true
 
-returns-2 : tie.Need-returns-2
-returns-2 c = separated-two _ _ c.before.if1.false c.if2.true c.before.before.requires
+returns-2 : tie.Need-returns-then-n-ge10
+returns-2 c = separated-two _ _ c.if-style.false c.if-n-ge10.true c.requires
 
-returns-3 : tie.Need-returns-3
-returns-3 c = separated-one _ _ c.before.if1.false c.if2.false
+returns-3 : tie.Need-returns
+returns-3 c = separated-one _ _ c.if-style.false c.if-n-ge10.false
 
-pub takes-two-spec : {M : Type 1} → statement M
-takes-two-spec = tie.close (tie.spec returns returns-2 returns-3)
+pub takes_two_spec : {M : Type 1} → statement M
+takes_two_spec = tie.close (tie.spec returns returns-2 returns-3)

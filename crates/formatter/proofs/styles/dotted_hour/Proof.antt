@@ -7,14 +7,14 @@ use Rattle.formatter.specs.Pieces.{separated}
 use Rattle.formatter.proofs.styles.dotted_hour.Statement.{statement}
 use Rattle.formatter.proofs.styles.dotted_hour.Tie as tie
 
-returns : tie.Need-returns
+returns : tie.Need-returns-then-hour-eq0
 unfolding dotted_hour
 returns c =
-    (rw (eq-eqb _ 0 c.before.if1.true) c.no-hour.ensures.0, c.no-hour.ensures.1 ∙ sym c.before.if1.true)
+    (rw (eq-eqb _ 0 c.if-hour-eq0.true) c.no_hour.ensures.0, c.no_hour.ensures.1 ∙ sym c.if-hour-eq0.true)
 
-returns-2 : tie.Need-returns-2
+returns-2 : tie.Need-returns
 unfolding separated dotted_hour
-returns-2 c = (rw (ne_eqb _ 0 c.if1.false), refl)
+returns-2 c = (rw (ne_eqb _ 0 c.if-hour-eq0.false), refl)
 
-pub dotted-hour-spec : {M : Type 1} → statement M
-dotted-hour-spec = tie.close (tie.spec (λ c κs. search rules) returns returns-2)
+pub dotted_hour_spec : {M : Type 1} → statement M
+dotted_hour_spec = tie.close (tie.spec (λ c κs. search rules) returns returns-2)

@@ -4,32 +4,32 @@ use Rattle.formatter.specs.Pieces.{separated}
 use Rattle.formatter.proofs.styles.dotted_style.Statement.{statement}
 use Rattle.formatter.proofs.styles.dotted_style.Tie as tie
 
-returns : tie.Need-returns
+returns : tie.Need-returns-in-Raw
 unfolding separated
-returns c = λ n. rw c.enum_told.given.1
+returns c = λ n. rw c.in-Raw.is
 
-returns-2 : tie.Need-returns-2
+returns-2 : tie.Need-returns-in-Date
 unfolding separated
-returns-2 c = λ n. rw c.enum-told2.given.1
+returns-2 c = λ n. rw c.in-Date.is
 
-returns-3 : tie.Need-returns-3
+returns-3 : tie.Need-returns-in-Hour
 unfolding separated
-returns-3 c = λ n. rw c.enum-told3.given.1
+returns-3 c = λ n. rw c.in-Hour.is
 
-returns-4 : tie.Need-returns-4
+returns-4 : tie.Need-returns-in-Uniform
 unfolding separated
-returns-4 c = λ n. rw c.enum-told4.given.1
+returns-4 c = λ n. rw c.in-Uniform.is
 
-returns-5 : tie.Need-returns-5
+returns-5 : tie.Need-returns-in-Eu5
 unfolding separated
-returns-5 c = λ n. rw c.enum-told5.given.1
+returns-5 c = λ n. rw c.in-Eu5.is
 
-returns-6 : tie.Need-returns-6
+returns-6 : tie.Need-returns-in-Vic3
 unfolding separated
-returns-6 c = λ n. rw c.enum-told6.given.1
+returns-6 c = λ n. rw c.in-Vic3.is
 
-pub dotted-style-spec : {M : Type 1} → statement M
-dotted-style-spec =
+pub dotted_style_spec : {M : Type 1} → statement M
+dotted_style_spec =
     tie.close
     (tie.spec
     (λ c. search rules)

@@ -6,14 +6,14 @@ use Rattle.digits.proofs.Places.{filled-own, filled_more}
 use Rattle.formatter.proofs.years.at_least.Statement.{statement}
 use Rattle.formatter.proofs.years.at_least.Tie as tie
 
-returns : tie.Need-returns
+returns : tie.Need-returns-then-own-width
 returns c =
-    (filled_more _ _ _ (omega arith) c.before.digits_of.ensures.0 c.if1.true, c.before.before.requires.1)
+    (filled_more _ _ _ (omega arith) c.digits_of-own.ensures.0 c.if-own-width.true, c.requires.1)
 
-returns-2 : tie.Need-returns-2
+returns-2 : tie.Need-returns
 returns-2 c =
-    let most = digits-most c.before.before.args.n (omega arith) 4 (omega arith) in
-    (filled-own _ _ _ (omega arith) c.before.digits_of.ensures.0 c.if1.false, omega (arith, c.before.digits_of.ensures.0))
+    let most = digits-most c.args.n (omega arith) 4 (omega arith) in
+    (filled-own _ _ _ (omega arith) c.digits_of-own.ensures.0 c.if-own-width.false, omega (arith, c.digits_of-own.ensures.0))
 
-pub at-least-spec : {M : Type 1} → statement M
-at-least-spec = tie.close (tie.spec (λ c κs. search rules) returns returns-2)
+pub at_least_spec : {M : Type 1} → statement M
+at_least_spec = tie.close (tie.spec (λ c κs. search rules) returns returns-2)

@@ -8,17 +8,17 @@ use Rattle.formatter.proofs.PieceLaws.{exchange-filled, exchange-plus}
 use Rattle.formatter.proofs.years.exchange_year.Statement.{statement}
 use Rattle.formatter.proofs.years.exchange_year.Tie as tie
 
-got : (c : tie.After-halves16) → Halved 32767 c.before.args.year c.halves16.result.up c.halves16.result.dn
-got c = rw (to_z-of_z c.before.ranges.year) at c.halves16.ensures
+got : (c : tie.After-halves16-h) → Halved 32767 c.args.year c.halves16-h.result.up c.halves16-h.result.dn
+got c = rw (to_z-of_z c.ranges.year) at c.halves16-h.ensures
 
-returns : tie.Need-returns
+returns : tie.Need-returns-then-h-gt-LAST_UNSIGNED
 returns c =
-    (c.signed.ensures.0 ∙ exchange-plus _ (got c.before.before.before) (omega (arith, c.before.if1.true)), c.signed.ensures.1)
+    (c.signed.ensures.0 ∙ exchange-plus _ (got c.before.before.before) (omega (arith, c.if-h-gt-LAST_UNSIGNED.true)), c.signed.ensures.1)
 
-returns-2 : tie.Need-returns-2
+returns-2 : tie.Need-returns
 returns-2 c =
-    ((rw (to_z-of_z c.before.before.before.before.ranges.year) at c.filled-year.ensures.0) ∙ exchange-filled _ (got c.before.before.before) (omega (arith, c.before.if1.false)), c.filled-year.ensures.1)
+    ((rw (to_z-of_z c.ranges.year) at c.filled_year.ensures.0) ∙ exchange-filled _ (got c.before.before.before) (omega (arith, c.if-h-gt-LAST_UNSIGNED.false)), c.filled_year.ensures.1)
 
-pub exchange-year-spec : {M : Type 1} → statement M
-exchange-year-spec =
+pub exchange_year_spec : {M : Type 1} → statement M
+exchange_year_spec =
     tie.close (tie.spec (λ c κs. search rules) (λ c κs. search rules) returns (λ c κs. search rules) returns-2)

@@ -7,17 +7,17 @@ use Rattle.formatter.proofs.PieceLaws.{year-above, year-below}
 use Rattle.formatter.proofs.years.filled_year.Statement.{statement}
 use Rattle.formatter.proofs.years.filled_year.Tie as tie
 
-got : (c : tie.After-halves16) → Halved 32767 c.before.args.year c.halves16.result.up c.halves16.result.dn
-got c = rw (to_z-of_z c.before.ranges.year) at c.halves16.ensures
+got : (c : tie.After-halves16-h) → Halved 32767 c.args.year c.halves16-h.result.up c.halves16-h.result.dn
+got c = rw (to_z-of_z c.ranges.year) at c.halves16-h.ensures
 
-returns : tie.Need-returns
+returns : tie.Need-returns-then-h-gt0
 returns c =
-    (c.signed.ensures.0 ∙ year-below _ _ _ (got c.before.before.before) c.before.if1.true, c.signed.ensures.1)
+    (c.signed.ensures.0 ∙ year-below _ _ _ (got c.before.before.before) c.if-h-gt0.true, c.signed.ensures.1)
 
-returns-2 : tie.Need-returns-2
+returns-2 : tie.Need-returns
 returns-2 c =
-    (c.signed2.ensures.0 ∙ year-above _ _ _ (got c.before.before.before) c.before.if1.false, c.signed2.ensures.1)
+    (c.signed-2.ensures.0 ∙ year-above _ _ _ (got c.before.before.before) c.if-h-gt0.false, c.signed-2.ensures.1)
 
-pub filled-year-spec : {M : Type 1} → statement M
-filled-year-spec =
+pub filled_year_spec : {M : Type 1} → statement M
+filled_year_spec =
     tie.close (tie.spec (λ c κs. search rules) (λ c κs. search rules) returns (λ c κs. search rules) returns-2)

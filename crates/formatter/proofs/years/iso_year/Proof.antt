@@ -8,7 +8,7 @@ use Rattle.formatter.proofs.years.iso_year.Tie as tie
 
 returns : tie.Need-returns
 returns c =
-    ((rw (to_z-of_z c.before.ranges.year) at c.filled-year.ensures.0) ∙ iso-filled c.before.args.year, c.filled-year.ensures.1)
+    ((rw (to_z-of_z c.ranges.year) at c.filled_year.ensures.0) ∙ iso-filled c.args.year, c.filled_year.ensures.1)
 
-pub iso-year-spec : {M : Type 1} → statement M
-iso-year-spec = tie.close (tie.spec (λ c κs. search rules) returns)
+pub iso_year_spec : {M : Type 1} → statement M
+iso_year_spec = tie.close (tie.spec (λ c κs. search rules) returns)

@@ -11,47 +11,47 @@ use Rattle.formatter.specs.Pieces.{year_text}
 use Rattle.formatter.proofs.years.put_year.Statement.{statement}
 use Rattle.formatter.proofs.years.put_year.Tie as tie
 
-signed : (c : tie.Else1) → c.before.before.args.year.digits + 1 ≤ length c.before.before.args.out.now
+signed : (c : tie.Else-sign-eq-NO_SIGN) → c.args.year.digits + 1 ≤ length c.args.out.now
 unfolding year_text
-signed c = let r = rw (ne_eqb _ 0 c.if1.false, digits-length _ _) at c.before.before.requires in omega arith
+signed c = let r = rw (ne_eqb _ 0 c.if-sign-eq-NO_SIGN.false, digits-length _ _) at c.requires in omega arith
 
-put-digits-requires : tie.Need-put-digits-requires
+put_digits-requires : tie.Need-put_digits-requires
 unfolding year_text
-put-digits-requires c κs = rw (eq-eqb _ 0 c.before.if1.true, digits-length _ _) at c.before.before.before.requires
+put_digits-requires c κs = rw (eq-eqb _ 0 c.if-sign-eq-NO_SIGN.true, digits-length _ _) at c.requires
 
-sub-put-digits : tie.Need-overflow-sub-put-digits
-sub-put-digits c = omega (arith, signed c)
+sub-put_digits : tie.Need-slice_bounds-put_digits-count
+sub-put_digits c = omega (arith, signed c)
 
-part-put-digits-start : tie.Need-slice-bounds-put-digits-start
-part-put-digits-start c = omega (arith, signed c)
+part-put_digits-start : tie.Need-slice_bounds-put_digits-start
+part-put_digits-start c = omega (arith, signed c)
 
-put-digits-requires-2 : tie.Need-put-digits-requires-2
-put-digits-requires-2 c κs =
-    let r = signed c.before in rw (tail-lent c.before.before.before.args.out.now 1, length-drop) (omega arith)
+put_digits-requires-2 : tie.Need-put_digits-requires-else-sign-eq-NO_SIGN
+put_digits-requires-2 c κs =
+    let r = signed c.before in rw (tail-lent c.args.out.now 1, length-drop) (omega arith)
 
-slice-write-out : tie.Need-slice-write-out
-slice-write-out c = let r = signed c.before.before.before.before in search rules
+slice_write-out : tie.Need-bounds-out-0
+slice_write-out c = let r = signed c.before.before.before.before in search rules
 
-returns : tie.Need-returns
+returns : tie.Need-returns-then-sign-eq-NO_SIGN
 unfolding year_text
 returns c =
-    rw (eq-eqb _ 0 c.before.before.before.before.if1.true) c.before.before.put-digits.ensures
+    rw (eq-eqb _ 0 c.if-sign-eq-NO_SIGN.true) c.put_digits.ensures
 
-returns-2 : tie.Need-returns-2
+returns-2 : tie.Need-returns-else-sign-eq-NO_SIGN
 unfolding year_text
 returns-2 c =
-    let r = signed c.before.before.before.before in rw (ne_eqb _ 0 c.before.before.before.before.if1.false) (byte-tail c.before.before.before.before.before.before.args.out.now (digits_in c.before.before.before.before.before.before.args.year.digits c.before.before.before.before.before.before.args.year.size) _ _ (omega arith) c.before.before.put-digits2.ensures)
+    let r = signed c.before.before.before.before in rw (ne_eqb _ 0 c.if-sign-eq-NO_SIGN.false) (byte-tail c.args.out.now (digits_in c.args.year.digits c.args.year.size) _ _ (omega arith) c.put_digits-else-sign-eq-NO_SIGN.ensures)
 
-pub put-year-spec : {M : Type 1} → statement M
-put-year-spec =
+pub put_year_spec : {M : Type 1} → statement M
+put_year_spec =
     tie.close
     (tie.spec
-    put-digits-requires
-    sub-put-digits
-    part-put-digits-start
+    put_digits-requires
+    sub-put_digits
+    part-put_digits-start
     (λ c. search rules)
-    put-digits-requires-2
-    slice-write-out
+    put_digits-requires-2
+    slice_write-out
     (λ c. search rules)
     returns
     (λ c. search rules)

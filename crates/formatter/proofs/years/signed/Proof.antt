@@ -10,7 +10,7 @@ use Rattle.formatter.proofs.years.signed.Tie as tie
 returns : tie.Need-returns
 unfolding year_text
 returns c =
-    (ap (λ (l : List ℕ). sign_text c.before.args.sign ++ l) (sym c.at_least_lem.ensures.0), c.at_least_lem.ensures.1)
+    (ap (λ (l : List ℕ). sign_text c.args.sign ++ l) (sym c.at_least.ensures.0), c.at_least.ensures.1)
 
-pub signed-spec : {M : Type 1} → statement M
-signed-spec = tie.close (tie.spec (λ c κs. search rules) returns)
+pub signed_spec : {M : Type 1} → statement M
+signed_spec = tie.close (tie.spec (λ c κs. search rules) returns)

@@ -3,11 +3,11 @@ use mir.Facts.{to_z-of_z}
 use Rattle.number.proofs.narrow.guess_date.Statement.{statement}
 use Rattle.number.proofs.narrow.guess_date.Tie as tie
 
-returns : tie.Need-returns
-returns c = rw (rw (to_z-of_z c.before.ranges.year) at c.if1.true)
+returns : tie.Need-returns-then-year-gtminus100
+returns c = rw (rw (to_z-of_z c.ranges.year) at c.if-year-gtminus100.true)
 
-returns-2 : tie.Need-returns-2
-returns-2 c = rw (rw (to_z-of_z c.before.ranges.year) at c.if1.false)
+returns-2 : tie.Need-returns
+returns-2 c = rw (rw (to_z-of_z c.ranges.year) at c.if-year-gtminus100.false)
 
-pub guess-date-spec : {M : Type 1} → statement M
-guess-date-spec = tie.close (tie.spec returns returns-2)
+pub guess_date_spec : {M : Type 1} → statement M
+guess_date_spec = tie.close (tie.spec returns returns-2)

@@ -6,31 +6,31 @@ use borrow.Author.Tests.{eq-eqb, ne_eqb}
 use Rattle.number.proofs.narrow.guess_hour.Statement.{statement}
 use Rattle.number.proofs.narrow.guess_hour.Tie as tie
 
-returns : tie.Need-returns
-returns c = rw (rw (to_z-of_z c.before.ranges.year) at c.if1.true)
+returns : tie.Need-returns-then-year-ge1800
+returns c = rw (rw (to_z-of_z c.ranges.year) at c.if-year-ge1800.true)
 
-returns-2 : tie.Need-returns-2
+returns-2 : tie.Need-returns-then-is_year
 returns-2 c =
-    rw (rw (to_z-of_z c.before.before.before.before.before.before.ranges.year) at c.before.before.before.before.before.if1.false, eq-eqb _ 1 c.before.before.before.before.if2.true, eq-eqb _ 1 c.before.before.before.if3.true, eq-eqb _ 1 c.before.before.if4.true, sym (rw (to_z-of_z c.before.before.before.before.before.before.ranges.year) at c.before.is-year.ensures) ∙ c.if5.true)
+    rw (rw (to_z-of_z c.ranges.year) at c.if-year-ge1800.false, eq-eqb _ 1 c.if-month-eq1.true, eq-eqb _ 1 c.if-day-eq1.true, eq-eqb _ 1 c.if-hour-eq1.true, sym (rw (to_z-of_z c.ranges.year) at c.is_year.ensures) ∙ c.if-is_year.true)
 
-returns-3 : tie.Need-returns-3
+returns-3 : tie.Need-returns-then-hour-eq1
 returns-3 c =
-    rw (rw (to_z-of_z c.before.before.before.before.before.before.before.ranges.year) at c.before.before.before.before.before.before.if1.false, eq-eqb _ 1 c.before.before.before.before.before.if2.true, eq-eqb _ 1 c.before.before.before.before.if3.true, eq-eqb _ 1 c.before.before.before.if4.true, sym (rw (to_z-of_z c.before.before.before.before.before.before.before.ranges.year) at c.before.before.is-year.ensures) ∙ c.before.if5.false) (rw (to_z-of_z c.before.before.before.before.before.before.before.ranges.year) at c.is-year2.ensures)
+    rw (rw (to_z-of_z c.ranges.year) at c.if-year-ge1800.false, eq-eqb _ 1 c.if-month-eq1.true, eq-eqb _ 1 c.if-day-eq1.true, eq-eqb _ 1 c.if-hour-eq1.true, sym (rw (to_z-of_z c.ranges.year) at c.is_year.ensures) ∙ c.if-is_year.false) (rw (to_z-of_z c.ranges.year) at c.is_year-then-hour-eq1.ensures)
 
-returns-4 : tie.Need-returns-4
+returns-4 : tie.Need-returns-else-hour-eq1
 returns-4 c =
-    rw (rw (to_z-of_z c.before.before.before.before.ranges.year) at c.before.before.before.if1.false, eq-eqb _ 1 c.before.before.if2.true, eq-eqb _ 1 c.before.if3.true, ne_eqb _ 1 c.if4.false)
+    rw (rw (to_z-of_z c.ranges.year) at c.if-year-ge1800.false, eq-eqb _ 1 c.if-month-eq1.true, eq-eqb _ 1 c.if-day-eq1.true, ne_eqb _ 1 c.if-hour-eq1.false)
 
-returns-5 : tie.Need-returns-5
+returns-5 : tie.Need-returns-else-day-eq1
 returns-5 c =
-    rw (rw (to_z-of_z c.before.before.before.ranges.year) at c.before.before.if1.false, eq-eqb _ 1 c.before.if2.true, ne_eqb _ 1 c.if3.false)
+    rw (rw (to_z-of_z c.ranges.year) at c.if-year-ge1800.false, eq-eqb _ 1 c.if-month-eq1.true, ne_eqb _ 1 c.if-day-eq1.false)
 
-returns-6 : tie.Need-returns-6
+returns-6 : tie.Need-returns-else-month-eq1
 returns-6 c =
-    rw (rw (to_z-of_z c.before.before.ranges.year) at c.before.if1.false, ne_eqb _ 1 c.if2.false)
+    rw (rw (to_z-of_z c.ranges.year) at c.if-year-ge1800.false, ne_eqb _ 1 c.if-month-eq1.false)
 
-pub guess-hour-spec : {M : Type 1} → statement M
-guess-hour-spec =
+pub guess_hour_spec : {M : Type 1} → statement M
+guess_hour_spec =
     tie.close
     (tie.spec
     returns

@@ -5,8 +5,8 @@ use Rattle.sign.specs.Halves.{up, Halved}
 use Rattle.number.proofs.narrow.is_early.Statement.{statement}
 use Rattle.number.proofs.narrow.is_early.Tie as tie
 
-got : (c : tie.After-halves32) → Halved 2147483647 c.before.args.s c.halves32.result.up c.halves32.result.dn
-got c = rw (to_z-of_z c.before.ranges.s) at c.halves32.ensures
+got : (c : tie.After-halves32-h) → Halved 2147483647 c.args.s c.halves32-h.result.up c.halves32-h.result.dn
+got c = rw (to_z-of_z c.ranges.s) at c.halves32-h.ensures
 
-pub is-early-spec : {M : Type 1} → statement M
-is-early-spec = tie.close (tie.spec (λ c κs. search rules) (λ c. rw (got c).up_is))
+pub is_early_spec : {M : Type 1} → statement M
+is_early_spec = tie.close (tie.spec (λ c κs. search rules) (λ c. rw (got c).up_is))

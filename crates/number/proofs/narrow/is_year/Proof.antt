@@ -4,17 +4,17 @@ use Rattle.sign.proofs.Laws.{le-by}
 use Rattle.number.proofs.narrow.is_year.Statement.{statement}
 use Rattle.number.proofs.narrow.is_year.Tie as tie
 
-returns : tie.Need-returns
+returns : tie.Need-returns-then-other-year
 returns c =
-    let a = c.before.args in let f = c.before.ranges in rw (le-by a.other a.year (rw (to_z-of_z f.other, to_z-of_z f.year) at c.if1.true))
+    let a = c.args in let f = c.ranges in rw (le-by a.other a.year (rw (to_z-of_z f.other, to_z-of_z f.year) at c.if-other-year.true))
 
-returns-2 : tie.Need-returns-2
+returns-2 : tie.Need-returns-then-year-other
 returns-2 c =
-    let a = c.before.before.args in let f = c.before.before.ranges in rw (le-by a.other a.year (rw (to_z-of_z f.other, to_z-of_z f.year) at c.before.if1.false), le-by a.year a.other (rw (to_z-of_z f.year, to_z-of_z f.other) at c.if2.true))
+    let a = c.args in let f = c.ranges in rw (le-by a.other a.year (rw (to_z-of_z f.other, to_z-of_z f.year) at c.if-other-year.false), le-by a.year a.other (rw (to_z-of_z f.year, to_z-of_z f.other) at c.if-year-other.true))
 
-returns-3 : tie.Need-returns-3
+returns-3 : tie.Need-returns
 returns-3 c =
-    let a = c.before.before.args in let f = c.before.before.ranges in rw (le-by a.other a.year (rw (to_z-of_z f.other, to_z-of_z f.year) at c.before.if1.false), le-by a.year a.other (rw (to_z-of_z f.year, to_z-of_z f.other) at c.if2.false))
+    let a = c.args in let f = c.ranges in rw (le-by a.other a.year (rw (to_z-of_z f.other, to_z-of_z f.year) at c.if-other-year.false), le-by a.year a.other (rw (to_z-of_z f.year, to_z-of_z f.other) at c.if-year-other.false))
 
-pub is-year-spec : {M : Type 1} → statement M
-is-year-spec = tie.close (tie.spec returns returns-2 returns-3)
+pub is_year_spec : {M : Type 1} → statement M
+is_year_spec = tie.close (tie.spec returns returns-2 returns-3)

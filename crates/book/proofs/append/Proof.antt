@@ -10,26 +10,26 @@ use borrow.Author.Rules.{rules}
 use Rattle.book.proofs.append.Statement.{statement}
 use Rattle.book.proofs.append.Tie as tie
 
-append-record-requires : tie.Need-append-record-requires
-append-record-requires c κs =
-    let a = c.before.before.before.before.before.before.args in
-    let long : length c.before.before.bytes_of.result ≡ 5 = ap length c.before.before.bytes_of.ensures ∙ five-long a.kind a.date in
+append_record-requires : tie.Need-append_record-requires
+append_record-requires c κs =
+    let a = c.args in
+    let long : length c.bytes_of-piece.result ≡ 5 = ap length c.bytes_of-piece.ensures ∙ five-long a.kind a.date in
     (omega arith, omega arith)
 
-returns : tie.Need-returns
+returns : tie.Need-returns-then-is_of_kind
 returns c =
-    let a = c.before.before.before.before.before.before.before.before.before.args in
+    let a = c.args in
     let s = a.b.now in
     let entry = Gives (bytes_of a.kind a.date) in
-    rw (entry-given a.kind a.date (sym c.before.before.before.before.before.before.before.is-of-kind.ensures ∙ c.before.before.before.before.before.before.if1.true), ← append-one s entry, ← buffer-one s entry)
-    (rw (c.before.before.before.before.before.bytes_of.ensures, five-long a.kind a.date) at c.before.before.append-record.ensures)
+    rw (entry-given a.kind a.date (sym c.is_of_kind.ensures ∙ c.if-is_of_kind.true), ← append-one s entry, ← buffer-one s entry)
+    (rw (c.bytes_of-piece.ensures, five-long a.kind a.date) at c.append_record.ensures)
 
-returns-2 : tie.Need-returns-2
+returns-2 : tie.Need-returns
 unfolding append_answer append_buffer
 returns-2 c =
-    let a = c.before.before.before.args in
-    rw (entry-not a.kind a.date (sym c.before.is-of-kind.ensures ∙ c.if1.false)) (refl, refl)
+    let a = c.args in
+    rw (entry-not a.kind a.date (sym c.is_of_kind.ensures ∙ c.if-is_of_kind.false)) (refl, refl)
 
-pub append-spec : {M : Type 1} → statement M
-append-spec =
-    tie.close (tie.spec (λ c κs. search rules) (λ c κs. search rules) (λ c. search rules) append-record-requires (λ c. search rules) returns returns-2)
+pub append_spec : {M : Type 1} → statement M
+append_spec =
+    tie.close (tie.spec (λ c κs. search rules) (λ c κs. search rules) (λ c. search rules) append_record-requires (λ c. search rules) returns returns-2)

@@ -5,11 +5,11 @@ use Rattle.book.proofs.Laws.{check-one}
 use Rattle.book.proofs.check.Statement.{statement}
 use Rattle.book.proofs.check.Tie as tie
 
-check-of-requires : tie.Need-check-of-requires
-check-of-requires c κs = (omega arith, omega arith)
+check_of-requires : tie.Need-check_of-requires
+check_of-requires c κs = (omega arith, omega arith)
 
 returns : tie.Need-returns
-returns c = c.check-of.ensures ∙ check-one c.before.before.args.b.now
+returns c = c.check_of.ensures ∙ check-one c.args.b.now
 
-pub check-spec : {M : Type 1} → statement M
-check-spec = tie.close (tie.spec check-of-requires returns)
+pub check_spec : {M : Type 1} → statement M
+check_spec = tie.close (tie.spec check_of-requires returns)

@@ -6,11 +6,11 @@ use Rattle.book.proofs.Laws.{check-one, entry-one}
 use Rattle.book.proofs.entry.Statement.{statement}
 use Rattle.book.proofs.entry.Tie as tie
 
-entry-of-requires : tie.Need-entry-of-requires
-entry-of-requires c κs = (omega arith, omega arith, ap given (check-one c.before.args.b.now) ∙ c.before.requires)
+entry_of-requires : tie.Need-entry_of-requires
+entry_of-requires c κs = (omega arith, omega arith, ap given (check-one c.args.b.now) ∙ c.requires)
 
 returns : tie.Need-returns
-returns c = c.entry_of.ensures ∙ entry-one c.before.before.args.b.now c.before.before.args.place
+returns c = c.entry_of.ensures ∙ entry-one c.args.b.now c.args.place
 
 pub entry_spec : {M : Type 1} → statement M
-entry_spec = tie.close (tie.spec entry-of-requires returns)
+entry_spec = tie.close (tie.spec entry_of-requires returns)

@@ -7,13 +7,13 @@ use Rattle.fast_date.proofs.FastTexts.{dots-8, none-8}
 use Rattle.fast_date.proofs.fast_8.Statement.{statement}
 use Rattle.fast_date.proofs.fast_8.Tie as tie
 
-pub fast-8-spec : {M : Type 1} → statement M
-fast-8-spec =
+pub fast_8_spec : {M : Type 1} → statement M
+fast_8_spec =
     tie.close
     (tie.spec
     (λ c. search rules) (λ c. search rules)
     (λ c. search rules) (λ c. search rules) (λ c. search rules) (λ c. search rules) (λ c. search rules) (λ c. search rules)
     (λ c κs. search rules) (λ c κs. search rules)
-    (λ c. c.fast-digits.ensures ∙ ap eight c.before.from_le_bytes.ensures ∙ sym (dots-8 _ c.before.before.before.before.before.before.before.before.before.before.before.before.before.requires c.before.before.before.before.before.before.before.before.before.before.if1.true c.before.before.before.before.before.before.before.before.if2.true))
-    (λ c. sym (none-8 _ c.before.before.before.before.before.requires (rw (eq-eqb _ 46 c.before.before.if1.true, ne_eqb _ 46 c.if2.false))))
-    (λ c. sym (none-8 _ c.before.before.before.requires (rw (ne_eqb _ 46 c.if1.false)))))
+    (λ c. c.fast_digits.ensures ∙ ap eight c.from_le_bytes-word.ensures ∙ sym (dots-8 _ c.requires c.if-s-eq46.true c.if-s-eq46-2.true))
+    (λ c. sym (none-8 _ c.requires (rw (eq-eqb _ 46 c.if-s-eq46.true, ne_eqb _ 46 c.if-s-eq46-2.false))))
+    (λ c. sym (none-8 _ c.requires (rw (ne_eqb _ 46 c.if-s-eq46.false)))))

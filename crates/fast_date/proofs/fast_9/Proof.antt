@@ -7,17 +7,17 @@ use Rattle.fast_date.proofs.FastTexts.{dots-9a, dots-9b, none-9}
 use Rattle.fast_date.proofs.fast_9.Statement.{statement}
 use Rattle.fast_date.proofs.fast_9.Tie as tie
 
-pub fast-9-spec : {M : Type 1} → statement M
-fast-9-spec =
+pub fast_9_spec : {M : Type 1} → statement M
+fast_9_spec =
     tie.close
     (tie.spec
     (λ c. search rules) (λ c. search rules)
     (λ c. search rules) (λ c. search rules) (λ c. search rules) (λ c. search rules) (λ c. search rules) (λ c. search rules) (λ c. search rules)
     (λ c κs. search rules) (λ c κs. search rules)
-    (λ c. c.fast-digits.ensures ∙ ap eight c.before.from_le_bytes.ensures ∙ sym (dots-9a _ c.before.before.before.before.before.before.before.before.before.before.before.before.before.before.requires c.before.before.before.before.before.before.before.before.before.before.before.if1.true c.before.before.before.before.before.before.before.before.before.if2.true))
+    (λ c. c.fast_digits.ensures ∙ ap eight c.from_le_bytes-word.ensures ∙ sym (dots-9a _ c.requires c.if-s-eq46.true c.if-s-eq46-2.true))
     (λ c. search rules)
     (λ c. search rules) (λ c. search rules) (λ c. search rules) (λ c. search rules) (λ c. search rules) (λ c. search rules) (λ c. search rules)
     (λ c κs. search rules) (λ c κs. search rules)
-    (λ c. c.fast-digits2.ensures ∙ ap eight c.before.from-le-bytes2.ensures ∙ sym (dots-9b _ c.before.before.before.before.before.before.before.before.before.before.before.before.before.before.before.before.requires c.before.before.before.before.before.before.before.before.before.before.before.before.before.if1.true c.before.before.before.before.before.before.before.before.before.if3.true))
-    (λ c. sym (none-9 _ c.before.before.before.before.before.before.before.requires (rw (eq-eqb _ 46 c.before.before.before.before.if1.true, ne_eqb _ 46 c.before.before.if2.false, ne_eqb _ 46 c.if3.false))))
-    (λ c. sym (none-9 _ c.before.before.before.requires (rw (ne_eqb _ 46 c.if1.false)))))
+    (λ c. c.fast_digits-then-s-eq46-3.ensures ∙ ap eight c.from_le_bytes-word-then-s-eq46-3.ensures ∙ sym (dots-9b _ c.requires c.if-s-eq46.true c.if-s-eq46-3.true))
+    (λ c. sym (none-9 _ c.requires (rw (eq-eqb _ 46 c.if-s-eq46.true, ne_eqb _ 46 c.if-s-eq46-2.false, ne_eqb _ 46 c.if-s-eq46-3.false))))
+    (λ c. sym (none-9 _ c.requires (rw (ne_eqb _ 46 c.if-s-eq46.false)))))

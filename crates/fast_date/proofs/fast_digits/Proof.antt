@@ -12,20 +12,20 @@ use Rattle.fast_date.proofs.fast_digits.Statement.{statement}
 use Rattle.fast_date.proofs.fast_digits.Tie as tie
 
 -- the value that the digits have, and its bound
-value-is : (p : tie.After-parsed) → Value p.parsed.given.0.0 ≡ parsed (bytes_of 8 p.before.before.before.args.word)
-value-is p = sym p.parsed.given.1 ∙ p.before.before.fast-digit-parse.ensures.0
+value-is : (p : tie.In-Value) → Value p.in-Value.v ≡ parsed (bytes_of 8 p.args.word)
+value-is p = sym p.in-Value.is ∙ p.fast_digit_parse-parsed.ensures.0
 
-small : (p : tie.After-parsed) → p.parsed.given.0.0 < 100000000
-small p = omega (arith, ap value_of p.parsed.given.1, p.before.before.fast-digit-parse.ensures.1)
+small : (p : tie.In-Value) → p.in-Value.v < 100000000
+small p = omega (arith, ap value_of p.in-Value.is, p.fast_digit_parse-parsed.ensures.1)
 
-pub fast-digits-spec : {M : Type 1} → statement M
+pub fast_digits_spec : {M : Type 1} → statement M
 unfolding eight
-fast-digits-spec =
+fast_digits_spec =
     tie.close
     (tie.spec
     (λ c κs. search rules) (λ c. search rules)
-    (λ c. omega (arith, small c.before)) (λ c. search rules) (λ c. search rules)
+    (λ c. omega (arith, small c)) (λ c. search rules) (λ c. search rules)
     (λ c κs. search rules) (λ c. search rules) (λ c. search rules) (λ c. search rules)
-    (λ c. let p = c.before.before.before.before.before in eight-told _ _ (value-is p) (small p) c.before.before.before.settle.ensures c.before.made.given.1)
-    (λ c. let p = c.before.before.before.before in eight-told _ _ (value-is p) (small p) c.before.before.settle.ensures c.enum_told.given.1)
-    (λ c. rw (parsed-none _ (sym c.enum-told2.given.1 ∙ c.before.before.fast-digit-parse.ensures.0))))
+    (λ c. let p = c in eight-told _ _ (value-is c.before.before) (small c.before.before) c.settle-made.ensures c.in-Date.is)
+    (λ c. let p = c in eight-told _ _ (value-is c.before.before) (small c.before.before) c.settle-made.ensures c.in-None.is)
+    (λ c. rw (parsed-none _ (sym c.in-NotDigits.is ∙ c.fast_digit_parse-parsed.ensures.0))))

@@ -8,40 +8,40 @@ use borrow.Author.Rules.{rules}
 use Rattle.field_table.proofs.declare.Statement.{statement}
 use Rattle.field_table.proofs.declare.Tie as tie
 
-entry-bytes-requires : tie.Need-entry-bytes-requires
-entry-bytes-requires c κs =
-    omega (arith, high 1 65535 c.before.before.before.before.before.before.before.before.before.before.before.before.args.field (sym c.before.before.before.before.before.is_field.ensures ∙ c.before.before.before.before.if1.true))
+entry_bytes-requires : tie.Need-entry_bytes-piece-requires
+entry_bytes-requires c κs =
+    omega (arith, high 1 65535 c.args.field (sym c.is_field.ensures ∙ c.if-is_field.true))
 
 declare-requires : tie.Need-declare-requires
 declare-requires c κs =
-    let s = c.before.before.before.before.before.before.before.before.before.before.before.before.before.before.before.args.b.now in let e = ap checked_as (sym c.before.before.before.before.before.before.before.before.before.before.checked.given.1) ∙ c.before.before.before.before.before.before.before.before.before.before.before.before.check.ensures in (room s e, (order s e, omega (arith, few s e)))
+    let s = c.args.b.now in let e = ap checked_as (sym c.in-Entries.is) ∙ c.check-checked.ensures in (room s e, (order s e, omega (arith, few s e)))
 
-returns : tie.Need-returns
+returns : tie.Need-returns-in-Kind
 returns c =
-    let a = c.before.before.before.before.before.before.before.before.before.before.before.before.before.before.before.before.before.before.args in declare-so a.b.now (ap checked_as (sym c.before.before.before.before.before.before.before.before.before.before.before.before.before.checked.given.1) ∙ c.before.before.before.before.before.before.before.before.before.before.before.before.before.before.before.check.ensures) a.field a.code (sym c.before.before.before.before.before.before.before.before.before.before.before.is_field.ensures ∙ c.before.before.before.before.before.before.before.before.before.before.if1.true) (ap allowed_as (sym c.before.before.before.before.before.before.before.coded.given.1) ∙ c.before.before.before.before.before.before.before.before.before.declared-kind.ensures) c.before.before.before.before.before.entry-bytes.ensures c.before.before.declare.ensures.0 c.before.before.declare.ensures.1
+    let a = c.args in declare-so a.b.now (ap checked_as (sym c.in-Entries.is) ∙ c.check-checked.ensures) a.field a.code (sym c.is_field.ensures ∙ c.if-is_field.true) (ap allowed_as (sym c.in-Kind.is) ∙ c.declared_kind-coded.ensures) c.entry_bytes-piece.ensures c.declare.ensures.0 c.declare.ensures.1
 
-returns-2 : tie.Need-returns-2
+returns-2 : tie.Need-returns-in-None
 returns-2 c =
-    let a = c.before.before.before.before.before.before.before.before.before.before.before.args in declare-no-kind a.b.now (ap checked_as (sym c.before.before.before.before.before.before.checked.given.1) ∙ c.before.before.before.before.before.before.before.before.check.ensures) a.field a.code (ap allowed_as (sym c.enum_told.given.1) ∙ c.before.before.declared-kind.ensures)
+    let a = c.args in declare-no-kind a.b.now (ap checked_as (sym c.in-Entries.is) ∙ c.check-checked.ensures) a.field a.code (ap allowed_as (sym c.in-None.is) ∙ c.declared_kind-coded.ensures)
 
-returns-3 : tie.Need-returns-3
+returns-3 : tie.Need-returns-else-is_field
 returns-3 c =
-    let a = c.before.before.before.before.before.before.before.before.args in declare-no-field a.b.now (ap checked_as (sym c.before.before.before.checked.given.1) ∙ c.before.before.before.before.before.check.ensures) a.field a.code (sym c.before.is_field.ensures ∙ c.if1.false)
+    let a = c.args in declare-no-field a.b.now (ap checked_as (sym c.in-Entries.is) ∙ c.check-checked.ensures) a.field a.code (sym c.is_field.ensures ∙ c.if-is_field.false)
 
-returns-4 : tie.Need-returns-4
+returns-4 : tie.Need-returns-in-BadLength
 returns-4 c =
-    let a = c.before.before.before.before.before.args in declare-not a.b.now (ap checked_as (sym c.enum-told2.given.1) ∙ c.before.before.check.ensures) a.field a.code
+    let a = c.args in declare-not a.b.now (ap checked_as (sym c.in-BadLength.is) ∙ c.check-checked.ensures) a.field a.code
 
-returns-5 : tie.Need-returns-5
+returns-5 : tie.Need-returns-in-BadVersion
 returns-5 c =
-    let a = c.before.before.before.before.before.args in declare-not a.b.now (ap checked_as (sym c.enum-told3.given.1) ∙ c.before.before.check.ensures) a.field a.code
+    let a = c.args in declare-not a.b.now (ap checked_as (sym c.in-BadVersion.is) ∙ c.check-checked.ensures) a.field a.code
 
-returns-6 : tie.Need-returns-6
+returns-6 : tie.Need-returns-in-BadEntry
 returns-6 c =
-    let a = c.before.before.before.before.before.args in declare-not a.b.now (ap checked_as (sym c.enum-told4.given.1) ∙ c.before.before.check.ensures) a.field a.code
+    let a = c.args in declare-not a.b.now (ap checked_as (sym c.in-BadEntry.is) ∙ c.check-checked.ensures) a.field a.code
 
-pub declare-spec : {M : Type 1} → statement M
-declare-spec =
+pub declare_spec : {M : Type 1} → statement M
+declare_spec =
     tie.close
     (tie.spec
     (λ c κs. search rules)
@@ -49,7 +49,7 @@ declare-spec =
     (λ c κs. search rules)
     (λ c κs. search rules)
     (λ c. search rules)
-    entry-bytes-requires
+    entry_bytes-requires
     (λ c. search rules)
     declare-requires
     (λ c. search rules)

@@ -9,34 +9,34 @@ use borrow.Author.Rules.{rules}
 use Rattle.field_table.proofs.declared_at.Statement.{statement}
 use Rattle.field_table.proofs.declared_at.Tie as tie
 
-ends : (c : tie.After-entries-in) → c.before.before.args.place < c.entries-in.result → 5 + c.before.before.args.place * 3 + 3 ≤ length c.before.before.args.b.now
-ends c l = inside (room c.before.before.args.b.now (sym c.entries-in.ensures)) c.before.before.args.place l
+ends : (c : tie.After-entries_in) → c.args.place < c.entries_in.result → 5 + c.args.place * 3 + 3 ≤ length c.args.b.now
+ends c l = inside (room c.args.b.now (sym c.entries_in.ensures)) c.args.place l
 
-mul-declared-at : tie.Need-overflow-mul-declared-at
-mul-declared-at c = omega (arith, ends c.before c.if1.true)
+mul-declared_at : tie.Need-overflow_mul-place
+mul-declared_at c = omega (arith, ends c.before c.if-place-entries_in.true)
 
-add-declared-at : tie.Need-overflow-add-declared-at
-add-declared-at c = omega (arith, ends c.before c.if1.true)
+add-declared_at : tie.Need-overflow_add-place
+add-declared_at c = omega (arith, ends c.before c.if-place-entries_in.true)
 
-declared-at-requires : tie.Need-declared-at-requires
-declared-at-requires c κs =
-    let a = c.before.before.before.args in ((omega (arith, ends c.before c.if1.true), omega arith), it-declares a.b.now (sym c.before.entries-in.ensures) a.place c.if1.true)
+declared_at-requires : tie.Need-declared_at-requires
+declared_at-requires c κs =
+    let a = c.args in ((omega (arith, ends c.before c.if-place-entries_in.true), omega arith), it-declares a.b.now (sym c.entries_in.ensures) a.place c.if-place-entries_in.true)
 
-returns : tie.Need-returns
+returns : tie.Need-returns-then-place-entries_in
 returns c =
-    let a = c.before.before.before.before.args in c.declared-at.ensures ∙ sym (entry-is a.b.now (sym c.before.before.entries-in.ensures) a.place c.before.if1.true)
+    let a = c.args in c.declared_at.ensures ∙ sym (entry-is a.b.now (sym c.entries_in.ensures) a.place c.if-place-entries_in.true)
 
-returns-2 : tie.Need-returns-2
+returns-2 : tie.Need-returns-else-place-entries_in
 returns-2 c =
-    let a = c.before.before.before.args in sym (entry_past a.b.now (sym c.before.entries-in.ensures) a.place (omega (arith, c.if1.false)))
+    let a = c.args in sym (entry_past a.b.now (sym c.entries_in.ensures) a.place (omega (arith, c.if-place-entries_in.false)))
 
-pub declared-at-spec : {M : Type 1} → statement M
-declared-at-spec =
+pub declared_at_spec : {M : Type 1} → statement M
+declared_at_spec =
     tie.close
     (tie.spec
     (λ c κs. search rules)
-    mul-declared-at
-    add-declared-at
-    declared-at-requires
+    mul-declared_at
+    add-declared_at
+    declared_at-requires
     returns
     returns-2)

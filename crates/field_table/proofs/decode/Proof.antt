@@ -14,29 +14,29 @@ use borrow.Author.Rules.{rules}
 use Rattle.field_table.proofs.decode.Statement.{statement}
 use Rattle.field_table.proofs.decode.Tie as tie
 
-from-binary-requires : tie.Need-from-binary-requires
-from-binary-requires c κs =
-    kind-allowed reads_numbers c.before.before.before.before.args.code _ (sym (ap allowed_as (sym c.before.coded.given.1) ∙ c.before.before.before.entry-kind.ensures))
+from_binary-requires : tie.Need-from_binary-read-requires
+from_binary-requires c κs =
+    kind-allowed reads_numbers c.args.code _ (sym (ap allowed_as (sym c.in-Kind.is) ∙ c.entry_kind-coded.ensures))
 
-returns : tie.Need-returns
+returns : tie.Need-returns-in-Date
 returns c =
-    let k = kind_of c.before.before.before.before.before.coded.given.0.0 in looked k false (read_number k c.before.before.before.before.before.before.before.before.args.number) (ap read_as (sym c.before.read.given.1) ∙ (rw (to_z-of_z c.before.before.before.before.before.before.before.before.ranges.number) at c.before.before.before.from-binary.ensures)) ∙ ap (λ x. in_bits (x then decode c.before.before.before.before.before.before.before.before.args.number)) (ap allowed_as (sym c.before.before.before.before.before.coded.given.1) ∙ c.before.before.before.before.before.before.before.entry-kind.ensures)
+    let k = kind_of c.in-Kind.kind in looked k false (read_number k c.args.number) (ap read_as (sym c.in-Date.is) ∙ (rw (to_z-of_z c.ranges.number) at c.from_binary-read.ensures)) ∙ ap (λ x. in_bits (x then decode c.args.number)) (ap allowed_as (sym c.in-Kind.is) ∙ c.entry_kind-coded.ensures)
 
-returns-2 : tie.Need-returns-2
+returns-2 : tie.Need-returns-in-NotNumber
 returns-2 c =
-    let k = kind_of c.before.before.before.before.coded.given.0.0 in looked k false (read_number k c.before.before.before.before.before.before.before.args.number) (ap read_as (sym c.enum_told.given.1) ∙ (rw (to_z-of_z c.before.before.before.before.before.before.before.ranges.number) at c.before.before.from-binary.ensures)) ∙ ap (λ x. in_bits (x then decode c.before.before.before.before.before.before.before.args.number)) (ap allowed_as (sym c.before.before.before.before.coded.given.1) ∙ c.before.before.before.before.before.before.entry-kind.ensures)
+    let k = kind_of c.in-Kind.kind in looked k false (read_number k c.args.number) (ap read_as (sym c.in-NotNumber.is) ∙ (rw (to_z-of_z c.ranges.number) at c.from_binary-read.ensures)) ∙ ap (λ x. in_bits (x then decode c.args.number)) (ap allowed_as (sym c.in-Kind.is) ∙ c.entry_kind-coded.ensures)
 
-returns-3 : tie.Need-returns-3
+returns-3 : tie.Need-returns-in-None
 returns-3 c =
-    ap (λ x. in_bits (x then decode c.before.before.before.args.number)) (ap allowed_as (sym c.enum-told2.given.1) ∙ c.before.before.entry-kind.ensures)
+    ap (λ x. in_bits (x then decode c.args.number)) (ap allowed_as (sym c.in-None.is) ∙ c.entry_kind-coded.ensures)
 
-pub decode-spec : {M : Type 1} → statement M
-decode-spec =
+pub decode_spec : {M : Type 1} → statement M
+decode_spec =
     tie.close
     (tie.spec
     (λ c κs. search rules)
     (λ c. search rules)
-    from-binary-requires
+    from_binary-requires
     (λ c. search rules)
     (λ c. search rules)
     (λ c. search rules)

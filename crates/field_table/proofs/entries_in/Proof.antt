@@ -5,16 +5,16 @@ use Rattle.field_table.proofs.Calls.{checked-count, checked-head}
 use Rattle.field_table.proofs.entries_in.Statement.{statement}
 use Rattle.field_table.proofs.entries_in.Tie as tie
 
-length-said-requires : tie.Need-length-said-requires
-length-said-requires c κs = omega (arith, checked-head c.before.args.b.now c.before.requires)
+length_said-requires : tie.Need-length_said-requires
+length_said-requires c κs = omega (arith, checked-head c.args.b.now c.requires)
 
-sub-result : tie.Need-overflow-sub-result
+sub-result : tie.Need-overflow_sub-result
 sub-result c =
-    omega (arith, checked-head c.before.before.args.b.now c.before.before.requires, c.length-said.ensures)
+    omega (arith, checked-head c.args.b.now c.requires, c.length_said.ensures)
 
 returns : tie.Need-returns
 returns c =
-    rw c.length-said.ensures (checked-count c.before.before.args.b.now c.before.before.requires)
+    rw c.length_said.ensures (checked-count c.args.b.now c.requires)
 
-pub entries-in-spec : {M : Type 1} → statement M
-entries-in-spec = tie.close (tie.spec length-said-requires sub-result returns)
+pub entries_in_spec : {M : Type 1} → statement M
+entries_in_spec = tie.close (tie.spec length_said-requires sub-result returns)

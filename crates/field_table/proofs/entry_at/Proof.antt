@@ -7,28 +7,28 @@ use borrow.Author.Rules.{rules}
 use Rattle.field_table.proofs.entry_at.Statement.{statement}
 use Rattle.field_table.proofs.entry_at.Tie as tie
 
-declared-at-requires : tie.Need-declared-at-requires
-declared-at-requires c κs = sym (ap given (ap checked_as (sym c.enum_told.given.1) ∙ c.before.before.check.ensures))
+declared_at-requires : tie.Need-declared_at-requires
+declared_at-requires c κs = sym (ap given (ap checked_as (sym c.in-Entries.is) ∙ c.check-checked.ensures))
 
-returns-2 : tie.Need-returns-2
+returns-2 : tie.Need-returns-in-BadLength
 returns-2 c =
-    entry-refused c.before.before.before.before.args.b.now (ap checked_as (sym c.enum-told2.given.1) ∙ c.before.before.check.ensures) c.before.before.before.before.args.place
+    entry-refused c.args.b.now (ap checked_as (sym c.in-BadLength.is) ∙ c.check-checked.ensures) c.args.place
 
-returns-3 : tie.Need-returns-3
+returns-3 : tie.Need-returns-in-BadVersion
 returns-3 c =
-    entry-refused c.before.before.before.before.args.b.now (ap checked_as (sym c.enum-told3.given.1) ∙ c.before.before.check.ensures) c.before.before.before.before.args.place
+    entry-refused c.args.b.now (ap checked_as (sym c.in-BadVersion.is) ∙ c.check-checked.ensures) c.args.place
 
-returns-4 : tie.Need-returns-4
+returns-4 : tie.Need-returns-in-BadEntry
 returns-4 c =
-    entry-refused c.before.before.before.before.args.b.now (ap checked_as (sym c.enum-told4.given.1) ∙ c.before.before.check.ensures) c.before.before.before.before.args.place
+    entry-refused c.args.b.now (ap checked_as (sym c.in-BadEntry.is) ∙ c.check-checked.ensures) c.args.place
 
-pub entry-at-spec : {M : Type 1} → statement M
-entry-at-spec =
+pub entry_at_spec : {M : Type 1} → statement M
+entry_at_spec =
     tie.close
     (tie.spec
     (λ c κs. search rules)
     (λ c. search rules)
-    declared-at-requires
+    declared_at-requires
     (λ c. search rules)
     (λ c. search rules)
     (λ c. search rules)

@@ -10,15 +10,15 @@ use borrow.Author.Rules.{rules}
 use Rattle.field_table.proofs.guess.Statement.{statement}
 use Rattle.field_table.proofs.guess.Tie as tie
 
-returns : tie.Need-returns
+returns : tie.Need-returns-in-Date
 returns c =
-    let k = kind_of c.before.before.before.before.args.kind in looked k true (guess_number k c.before.before.before.before.args.number) (ap guessed_as (sym c.before.guessed.given.1) ∙ (rw (to_z-of_z c.before.before.before.before.ranges.number) at c.before.before.before.from-binary-heuristic.ensures))
+    let k = kind_of c.args.kind in looked k true (guess_number k c.args.number) (ap guessed_as (sym c.in-Date.is) ∙ (rw (to_z-of_z c.ranges.number) at c.from_binary_heuristic-guessed.ensures))
 
-returns-2 : tie.Need-returns-2
+returns-2 : tie.Need-returns-in-NotNumber
 returns-2 c =
-    let k = kind_of c.before.before.before.args.kind in looked k true (guess_number k c.before.before.before.args.number) (ap guessed_as (sym c.enum_told.given.1) ∙ (rw (to_z-of_z c.before.before.before.ranges.number) at c.before.before.from-binary-heuristic.ensures))
+    let k = kind_of c.args.kind in looked k true (guess_number k c.args.number) (ap guessed_as (sym c.in-NotNumber.is) ∙ (rw (to_z-of_z c.ranges.number) at c.from_binary_heuristic-guessed.ensures))
 
-pub guess-spec : {M : Type 1} → statement M
-guess-spec =
+pub guess_spec : {M : Type 1} → statement M
+guess_spec =
     tie.close
     (tie.spec (λ c κs. search rules) (λ c. search rules) (λ c. search rules) returns returns-2)

@@ -11,19 +11,19 @@ use Rattle.field_table.proofs.look.Tie as tie
 
 look-requires : tie.Need-look-requires
 look-requires c κs =
-    let s = c.before.before.before.before.before.before.before.before.args.b.now in (room s (sym c.entries-in.ensures), (ordered s (sym c.entries-in.ensures), kind-allowed guesses c.before.before.before.before.before.before.before.before.args.game _ (sym (ap allowed_as (sym c.before.before.coded.given.1) ∙ c.before.before.before.before.game-kind.ensures))))
+    let s = c.args.b.now in (room s (sym c.entries_in.ensures), (ordered s (sym c.entries_in.ensures), kind-allowed guesses c.args.game _ (sym (ap allowed_as (sym c.in-Kind.is) ∙ c.game_kind-coded.ensures))))
 
-returns : tie.Need-returns
+returns : tie.Need-returns-in-Kind
 returns c =
-    let a = c.before.before.before.before.before.before.before.before.before.args in (rw (to_z-of_z c.before.before.before.before.before.before.before.before.before.ranges.number) at c.look.ensures) ∙ ap in_bits (sym (by-entry a.b.now (sym c.before.entries-in.ensures) a.field a.game a.number (sym c.before.before.before.before.before.before.before.is_field.ensures ∙ c.before.before.before.before.before.before.if1.true) (ap allowed_as (sym c.before.before.before.coded.given.1) ∙ c.before.before.before.before.before.game-kind.ensures)))
+    let a = c.args in (rw (to_z-of_z c.ranges.number) at c.look.ensures) ∙ ap in_bits (sym (by-entry a.b.now (sym c.entries_in.ensures) a.field a.game a.number (sym c.is_field.ensures ∙ c.if-is_field.true) (ap allowed_as (sym c.in-Kind.is) ∙ c.game_kind-coded.ensures)))
 
-returns-2 : tie.Need-returns-2
+returns-2 : tie.Need-returns-in-None
 returns-2 c =
-    let a = c.before.before.before.before.before.before.args in ap in_bits (sym (look-no-game a.b.now (sym (checked-count a.b.now c.before.before.before.before.before.before.requires)) a.field a.game a.number (sym c.before.before.before.before.is_field.ensures ∙ c.before.before.before.if1.true) (ap allowed_as (sym c.enum_told.given.1) ∙ c.before.before.game-kind.ensures)))
+    let a = c.args in ap in_bits (sym (look-no-game a.b.now (sym (checked-count a.b.now c.requires)) a.field a.game a.number (sym c.is_field.ensures ∙ c.if-is_field.true) (ap allowed_as (sym c.in-None.is) ∙ c.game_kind-coded.ensures)))
 
-returns-3 : tie.Need-returns-3
+returns-3 : tie.Need-returns-else-is_field
 returns-3 c =
-    let a = c.before.before.before.args in ap in_bits (sym (look-no-field a.b.now (sym (checked-count a.b.now c.before.before.before.requires)) a.field a.game a.number (sym c.before.is_field.ensures ∙ c.if1.false)))
+    let a = c.args in ap in_bits (sym (look-no-field a.b.now (sym (checked-count a.b.now c.requires)) a.field a.game a.number (sym c.is_field.ensures ∙ c.if-is_field.false)))
 
 pub look_spec : {M : Type 1} → statement M
 look_spec =

@@ -9,25 +9,25 @@ use Rattle.field_table.proofs.lookup.Statement.{statement}
 use Rattle.field_table.proofs.lookup.Tie as tie
 
 look-requires : tie.Need-look-requires
-look-requires c κs = sym (ap given (ap checked_as (sym c.enum_told.given.1) ∙ c.before.before.check.ensures))
+look-requires c κs = sym (ap given (ap checked_as (sym c.in-Entries.is) ∙ c.check-checked.ensures))
 
-returns : tie.Need-returns
-returns c = rw (to_z-of_z c.before.before.before.before.before.ranges.number) at c.look.ensures
+returns : tie.Need-returns-in-Entries
+returns c = rw (to_z-of_z c.ranges.number) at c.look.ensures
 
-returns-2 : tie.Need-returns-2
+returns-2 : tie.Need-returns-in-BadLength
 returns-2 c =
-    let a = c.before.before.before.before.args in look-refused a.b.now (ap checked_as (sym c.enum-told2.given.1) ∙ c.before.before.check.ensures) a.field a.game a.number
+    let a = c.args in look-refused a.b.now (ap checked_as (sym c.in-BadLength.is) ∙ c.check-checked.ensures) a.field a.game a.number
 
-returns-3 : tie.Need-returns-3
+returns-3 : tie.Need-returns-in-BadVersion
 returns-3 c =
-    let a = c.before.before.before.before.args in look-refused a.b.now (ap checked_as (sym c.enum-told3.given.1) ∙ c.before.before.check.ensures) a.field a.game a.number
+    let a = c.args in look-refused a.b.now (ap checked_as (sym c.in-BadVersion.is) ∙ c.check-checked.ensures) a.field a.game a.number
 
-returns-4 : tie.Need-returns-4
+returns-4 : tie.Need-returns-in-BadEntry
 returns-4 c =
-    let a = c.before.before.before.before.args in look-refused a.b.now (ap checked_as (sym c.enum-told4.given.1) ∙ c.before.before.check.ensures) a.field a.game a.number
+    let a = c.args in look-refused a.b.now (ap checked_as (sym c.in-BadEntry.is) ∙ c.check-checked.ensures) a.field a.game a.number
 
-pub lookup-spec : {M : Type 1} → statement M
-lookup-spec =
+pub lookup_spec : {M : Type 1} → statement M
+lookup_spec =
     tie.close
     (tie.spec
     (λ c κs. search rules)

@@ -9,30 +9,30 @@ use Rattle.field_table.proofs.remove.Tie as tie
 
 remove-requires : tie.Need-remove-requires
 remove-requires c κs =
-    let s = c.before.before.before.before.before.before.before.before.before.args.b.now in let e = ap checked_as (sym c.before.before.before.before.checked.given.1) ∙ c.before.before.before.before.before.before.check.ensures in (room s e, (order s e, omega (arith, few s e)))
+    let s = c.args.b.now in let e = ap checked_as (sym c.in-Entries.is) ∙ c.check-checked.ensures in (room s e, (order s e, omega (arith, few s e)))
 
-returns : tie.Need-returns
+returns : tie.Need-returns-then-is_field
 returns c =
-    let a = c.before.before.before.before.before.before.before.before.before.before.before.before.args in remove-so a.b.now (ap checked_as (sym c.before.before.before.before.before.before.before.checked.given.1) ∙ c.before.before.before.before.before.before.before.before.before.check.ensures) a.field (sym c.before.before.before.before.before.is_field.ensures ∙ c.before.before.before.before.if1.true) c.before.before.remove.ensures.0 c.before.before.remove.ensures.1
+    let a = c.args in remove-so a.b.now (ap checked_as (sym c.in-Entries.is) ∙ c.check-checked.ensures) a.field (sym c.is_field.ensures ∙ c.if-is_field.true) c.remove.ensures.0 c.remove.ensures.1
 
-returns-2 : tie.Need-returns-2
+returns-2 : tie.Need-returns-else-is_field
 returns-2 c =
-    let a = c.before.before.before.before.before.before.before.before.args in remove-no-field a.b.now (ap checked_as (sym c.before.before.before.checked.given.1) ∙ c.before.before.before.before.before.check.ensures) a.field (sym c.before.is_field.ensures ∙ c.if1.false)
+    let a = c.args in remove-no-field a.b.now (ap checked_as (sym c.in-Entries.is) ∙ c.check-checked.ensures) a.field (sym c.is_field.ensures ∙ c.if-is_field.false)
 
-returns-3 : tie.Need-returns-3
+returns-3 : tie.Need-returns-in-BadLength
 returns-3 c =
-    let a = c.before.before.before.before.before.args in remove-not a.b.now (ap checked_as (sym c.enum_told.given.1) ∙ c.before.before.check.ensures) a.field
+    let a = c.args in remove-not a.b.now (ap checked_as (sym c.in-BadLength.is) ∙ c.check-checked.ensures) a.field
 
-returns-4 : tie.Need-returns-4
+returns-4 : tie.Need-returns-in-BadVersion
 returns-4 c =
-    let a = c.before.before.before.before.before.args in remove-not a.b.now (ap checked_as (sym c.enum-told2.given.1) ∙ c.before.before.check.ensures) a.field
+    let a = c.args in remove-not a.b.now (ap checked_as (sym c.in-BadVersion.is) ∙ c.check-checked.ensures) a.field
 
-returns-5 : tie.Need-returns-5
+returns-5 : tie.Need-returns-in-BadEntry
 returns-5 c =
-    let a = c.before.before.before.before.before.args in remove-not a.b.now (ap checked_as (sym c.enum-told3.given.1) ∙ c.before.before.check.ensures) a.field
+    let a = c.args in remove-not a.b.now (ap checked_as (sym c.in-BadEntry.is) ∙ c.check-checked.ensures) a.field
 
-pub remove-spec : {M : Type 1} → statement M
-remove-spec =
+pub remove_spec : {M : Type 1} → statement M
+remove_spec =
     tie.close
     (tie.spec
     (λ c κs. search rules)

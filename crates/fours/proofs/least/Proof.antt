@@ -4,11 +4,11 @@ use borrow.Author.Tests.{le-leb, lt-leb}
 use Rattle.fours.proofs.least.Statement.{statement}
 use Rattle.fours.proofs.least.Tie as tie
 
-returns : tie.Need-returns
-returns c = rw (le-leb c.before.args.a c.before.args.b (omega arith))
+returns : tie.Need-returns-then-a-b
+returns c = rw (le-leb c.args.a c.args.b (omega arith))
 
-returns-2 : tie.Need-returns-2
-returns-2 c = rw (lt-leb c.before.args.a c.before.args.b (omega arith))
+returns-2 : tie.Need-returns
+returns-2 c = rw (lt-leb c.args.a c.args.b (omega arith))
 
-pub least-spec : {M : Type 1} → statement M
-least-spec = tie.close (tie.spec returns returns-2)
+pub least_spec : {M : Type 1} → statement M
+least_spec = tie.close (tie.spec returns returns-2)

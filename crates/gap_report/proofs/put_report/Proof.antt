@@ -23,7 +23,7 @@ copy-requires c κs =
 
 returns-2 : tie.Need-returns-2
 returns-2 c =
-    let text = report_text (both c.before.before.before.before.before.before.before.before.before.before.before.args.b.now) (records_in c.before.before.before.before.before.before.before.before.before.before.before.args.b.now) in let w = wrote text c.before.before.before.before.before.before.before.before.before.before.before.args.out.now c.before.before.before.before.before.before.before.build.ensures.0.0 c.before.before.before.before.before.if1.false (copied text _ c.before.before.before.before.before.before.before.before.before.before.before.args.out.now _ (taken text _ c.before.before.before.before.before.before.before.build.new.1.1.0 c.before.before.before.before.before.before.before.build.result c.before.before.before.before.before.before.before.build.ensures.0.0 c.before.before.before.before.before.before.before.build.ensures.1) c.before.before.copy.ensures.1) in let s = wrote-whole w in (s.answered, s.holds)
+    let text = report_text (both c.before.before.before.before.before.before.before.before.before.before.before.args.b.now) (records_in c.before.before.before.before.before.before.before.before.before.before.before.args.b.now) in let w = wrote text c.before.before.before.before.before.before.before.before.before.before.before.args.out.now c.before.before.before.before.before.before.before.build.ensures.0.0 c.before.before.before.before.before.if1.false (copied text _ c.before.before.before.before.before.before.before.before.before.before.before.args.out.now _ (taken text _ c.before.before.before.before.before.before.before.build.new.1.1.0 c.before.before.before.before.before.before.before.build.result c.before.before.before.before.before.before.before.build.ensures.0.0 c.before.before.before.before.before.before.before.build.ensures.1) c.before.before.copy.ensures) in let s = wrote-whole w in (s.answered, s.holds)
 
 pub put-report-spec : {M : Type 1} → statement M
 put-report-spec =

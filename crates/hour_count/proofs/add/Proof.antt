@@ -13,29 +13,29 @@ use Rattle.hour_count.proofs.add.Statement.{statement}
 use Rattle.hour_count.proofs.add.Tie as tie
 
 -- the fields that were found are those of the date handed in
-found : (c : tie.After-known-told) → let a = c.before.before.before.before.before.before.args in
-    handed (kind_of a.kind) (bits_of a.date) ≡ Gives (fields_of c.before.opened.given.0.0)
-found c = sym c.before.before.before.unpack.ensures ∙ ap opened_as c.before.opened.given.1
+found : (c : tie.In-Fields) → let a = c.args in
+    handed (kind_of a.kind) (bits_of a.date) ≡ Gives (fields_of c.in-Fields.fields)
+found c = sym c.unpack-opened.ensures ∙ ap opened_as c.in-Fields.is
 
-returns : tie.Need-returns
-returns c = rw (sym c.before.before.unpack.ensures ∙ ap opened_as c.enum_told.given.1)
+returns : tie.Need-returns-in_default
+returns c = rw (sym c.unpack-opened.ensures ∙ ap opened_as c.in_default.is)
 
 moved-requires : tie.Need-moved-requires
 moved-requires c κs =
-    let a = c.before.before.before.before.before.before.before.args in
-    let t = sym c.before.before.before.before.before.before.counts-in.ensures ∙ c.before.before.before.before.before.if1.true in
+    let a = c.args in
+    let t = sym c.counts_in.ensures ∙ c.if-counts_in.true in
     (on-hour a.block (kind_of a.kind) _ _ (found c.before) t, block-most a.block (kind_of a.kind) t, omega (arith, c.mark_of.ensures))
 
-returns-2 : tie.Need-returns-2
+returns-2 : tie.Need-returns-in-Fields
 unfolding add_count
 returns-2 c =
-    let k = c.before.before.before.before.before.before.before in
-    rw (found c.before.before, sym k.counts-in.ensures ∙ c.before.before.before.before.before.before.if1.true)
-    (rw (to_z-of_z k.before.ranges.count, c.before.mark_of.ensures) at c.moved.ensures)
+    let k = c in
+    rw (found c.before.before, sym k.counts_in.ensures ∙ c.if-counts_in.true)
+    (rw (to_z-of_z k.ranges.count, c.mark_of.ensures) at c.moved.ensures)
 
-returns-3 : tie.Need-returns-3
+returns-3 : tie.Need-returns-else-counts_in
 unfolding add_count
-returns-3 c = rw (sym c.before.counts-in.ensures ∙ c.if1.false, lacking _ _)
+returns-3 c = rw (sym c.counts_in.ensures ∙ c.if-counts_in.false, lacking _ _)
 
 pub add_spec : {M : Type 1} → statement M
 add_spec =

@@ -12,28 +12,28 @@ use Rattle.hour_count.proofs.between.Tie as tie
 
 int32-requires : tie.Need-int32-requires
 int32-requires c κs =
-    let n = c.before.before.number_of.result in let m = c.before.number-of2.result in
-    let l = div-le_self (m.dn + n.up - (m.up + n.dn)) c.before.before.before.args.block in
-    omega (arith, c.before.before.number_of.ensures, c.before.number-of2.ensures)
+    let n = c.number_of-n.result in let m = c.number_of-m.result in
+    let l = div-le_self (m.dn + n.up - (m.up + n.dn)) c.args.block in
+    omega (arith, c.number_of-n.ensures, c.number_of-m.ensures)
 
-int32-requires-2 : tie.Need-int32-requires-2
+int32-requires-2 : tie.Need-int32-requires-else-up-dn
 int32-requires-2 c κs =
-    let n = c.before.before.number_of.result in let m = c.before.number-of2.result in
-    let l = div-le_self (m.up + n.dn - (m.dn + n.up)) c.before.before.before.args.block in
-    omega (arith, c.before.before.number_of.ensures, c.before.number-of2.ensures)
+    let n = c.number_of-n.result in let m = c.number_of-m.result in
+    let l = div-le_self (m.up + n.dn - (m.dn + n.up)) c.args.block in
+    omega (arith, c.number_of-n.ensures, c.number_of-m.ensures)
 
-returns : tie.Need-returns
+returns : tie.Need-returns-then-up-dn
 returns c =
-    let n = c.before.before.before.number_of.ensures in let m = c.before.before.number-of2.ensures in
-    held w32 c.int32.type-inv ∙ c.int32.ensures ∙ gap_below c.before.before.before.before.args.block n m (omega arith)
+    let n = c.number_of-n.ensures in let m = c.number_of-m.ensures in
+    held w32 c.int32.type_inv ∙ c.int32.ensures ∙ gap_below c.args.block n m (omega arith)
 
-returns-2 : tie.Need-returns-2
+returns-2 : tie.Need-returns-else-up-dn
 returns-2 c =
-    let n = c.before.before.before.number_of.ensures in let m = c.before.before.number-of2.ensures in
-    held w32 c.int322.type-inv ∙ c.int322.ensures ∙ gap-above c.before.before.before.before.args.block n m (omega arith)
+    let n = c.number_of-n.ensures in let m = c.number_of-m.ensures in
+    held w32 c.int32-else-up-dn.type_inv ∙ c.int32-else-up-dn.ensures ∙ gap-above c.args.block n m (omega arith)
 
-pub between-spec : {M : Type 1} → statement M
-between-spec =
+pub between_spec : {M : Type 1} → statement M
+between_spec =
     tie.close
     (tie.spec
     (λ c κs. search rules)

@@ -4,14 +4,14 @@ use borrow.Author.Rules.{rules}
 use Rattle.hour_count.proofs.counts_in.Statement.{statement}
 use Rattle.hour_count.proofs.counts_in.Tie as tie
 
-returns-3 : tie.Need-returns-3
-returns-3 c = rw c.enum-told3.given.1
+returns-3 : tie.Need-returns-in-Hour
+returns-3 c = rw c.in-Hour.is
 
-returns-6 : tie.Need-returns-6
-returns-6 c = rw c.enum-told6.given.1
+returns-6 : tie.Need-returns-in-Vic3
+returns-6 c = rw c.in-Vic3.is
 
-pub counts-in-spec : {M : Type 1} → statement M
-counts-in-spec =
+pub counts_in_spec : {M : Type 1} → statement M
+counts_in_spec =
     tie.close
     (tie.spec
     (λ c. search rules)

@@ -13,29 +13,29 @@ use borrow.Author.Rules.{rules}
 use Rattle.hour_count.proofs.date_after.Statement.{statement}
 use Rattle.hour_count.proofs.date_after.Tie as tie
 
-add-t12 : tie.Need-overflow-add-t12
-add-t12 c = omega (arith, first_small (kind_of c.before.before.before.args.kind), c.first-hour.ensures)
+add-t12 : tie.Need-overflow_add-fields
+add-t12 c = omega (arith, first_small (kind_of c.args.kind), c.first_hour.ensures)
 
 pack-requires : tie.Need-pack-requires
 pack-requires c κs =
-    let d = c.before.before.before.args.hours / 24 % 365 in
+    let d = c.args.hours / 24 % 365 in
     let x = is-day d (omega arith) in
     let l = length-small (month_day d).month x.month-high in
-    let e = c.before.month-day-from-julian.ensures in
-    let h = first_small (kind_of c.before.before.before.args.kind) in
-    (omega (arith, c.before.before.before.requires.1), omega arith, omega arith, omega (arith, c.first-hour.ensures))
+    let e = c.month_day_from_julian-on.ensures in
+    let h = first_small (kind_of c.args.kind) in
+    (omega (arith, c.requires.1), omega arith, omega arith, omega (arith, c.first_hour.ensures))
 
 returns : tie.Need-returns
 returns c =
-    let a = c.before.before.before.before.args in
-    let y = held w16 c.before.before.before.int16.type-inv ∙ c.before.before.before.int16.ensures in
-    let on = c.before.before.month-day-from-julian.ensures in
+    let a = c.args in
+    let y = held w16 c.int16-year.type_inv ∙ c.int16-year.ensures in
+    let on = c.month_day_from_julian-on.ensures in
     c.pack.ensures
     ∙ ap (stored_with a.mark)
-    (date-is (kind_of a.kind) a.hours y on.0 on.1 (ap (λ (h : ℕ). a.hours % 24 + h) c.before.first-hour.ensures))
+    (date-is (kind_of a.kind) a.hours y on.0 on.1 (ap (λ (h : ℕ). a.hours % 24 + h) c.first_hour.ensures))
 
-pub date-after-spec : {M : Type 1} → statement M
-date-after-spec =
+pub date_after_spec : {M : Type 1} → statement M
+date_after_spec =
     tie.close
     (tie.spec
     (λ c κs. search rules)

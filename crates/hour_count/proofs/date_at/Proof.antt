@@ -9,33 +9,33 @@ use borrow.Author.Rules.{rules}
 use Rattle.hour_count.proofs.date_at.Statement.{statement}
 use Rattle.hour_count.proofs.date_at.Tie as tie
 
-sub-date-after : tie.Need-overflow-sub-date-after
-sub-date-after c =
-    let a = c.before.before.before.args in
-    omega (arith, judged-range 243247680 330847679 a.up a.dn _ c.before.before.judge.ensures c.enum-told3.given.1)
+sub-date_after : tie.Need-overflow_sub-up
+sub-date_after c =
+    let a = c.args in
+    omega (arith, judged-range 243247680 330847679 a.up a.dn _ c.judge-verdict.ensures c.in-InRange.is)
 
-date-after-requires : tie.Need-date-after-requires
-date-after-requires c κs =
-    let a = c.before.before.before.args in
-    omega (arith, judged-range 243247680 330847679 a.up a.dn _ c.before.before.judge.ensures c.enum-told3.given.1)
+date_after-requires : tie.Need-date_after-requires
+date_after-requires c κs =
+    let a = c.args in
+    omega (arith, judged-range 243247680 330847679 a.up a.dn _ c.judge-verdict.ensures c.in-InRange.is)
 
-returns : tie.Need-returns
+returns : tie.Need-returns-in-Overflow
 returns c =
-    rw (judged-hours (kind_of c.before.before.before.args.kind) _ c.before.before.judge.ensures c.enum_told.given.1)
+    rw (judged-hours (kind_of c.args.kind) _ c.judge-verdict.ensures c.in-Overflow.is)
 
-returns-2 : tie.Need-returns-2
+returns-2 : tie.Need-returns-in-OutOfRange
 returns-2 c =
-    rw (judged-hours (kind_of c.before.before.before.args.kind) _ c.before.before.judge.ensures c.enum-told2.given.1)
+    rw (judged-hours (kind_of c.args.kind) _ c.judge-verdict.ensures c.in-OutOfRange.is)
 
-returns-3 : tie.Need-returns-3
+returns-3 : tie.Need-returns-in-InRange
 returns-3 c =
-    let a = c.before.before.before.before.args in
-    let e = c.before.before.before.judge.ensures in let i = c.before.enum-told3.given.1 in
+    let a = c.args in
+    let e = c.judge-verdict.ensures in let i = c.in-InRange.is in
     let r = judged-range 243247680 330847679 a.up a.dn _ e i in
-    rw (judged-hours (kind_of a.kind) _ e i, ← (since-is a.up a.dn r.0)) (ap Gives c.date-after.ensures)
+    rw (judged-hours (kind_of a.kind) _ e i, ← (since-is a.up a.dn r.0)) (ap Gives c.date_after.ensures)
 
-pub date-at-spec : {M : Type 1} → statement M
-date-at-spec =
+pub date_at_spec : {M : Type 1} → statement M
+date_at_spec =
     tie.close
     (tie.spec
     (λ c κs. search rules)
@@ -43,8 +43,8 @@ date-at-spec =
     (λ c. search rules)
     (λ c. search rules)
     (λ c. search rules)
-    sub-date-after
-    date-after-requires
+    sub-date_after
+    date_after-requires
     returns
     returns-2
     returns-3)

@@ -16,18 +16,18 @@ use Rattle.hour_count.proofs.number_of.Tie as tie
 returns : tie.Need-returns
 unfolding hour_number straight
 returns c =
-    let t = c.before.before.struct_told.given.0.1 in
-    let year = c.before.before.before.before.before.before.args.date.year in
+    let t = c.struct_told-1.given.0.1 in
+    let year = c.args.date.year in
     let y = held w16 {z = year} t in
     let b = fits-tells w16 year (record { sfits = t }) in
-    let d = c.before.before.before.before.before.day-of-year.ensures in
-    let n = held w32 c.before.to-binary.type-inv ∙ c.before.to-binary.ensures in
+    let d = c.day_of_year-doy.ensures in
+    let n = held w32 c.to_binary.type_inv ∙ c.to_binary.ensures in
     let high : up year ≤ 32767 = omega (arith, b.up-less) in
-    in_halves (straight-in year _ _ b.dn-most high (rw d.0 at d.1) c.before.before.before.before.before.before.requires.2)
-    (rw (n, y, d.0, c.before.before.before.before.first-hour.ensures) at c.halves32.ensures)
+    in_halves (straight-in year _ _ b.dn-most high (rw d.0 at d.1) c.requires.2)
+    (rw (n, y, d.0, c.first_hour.ensures) at c.halves32.ensures)
 
-pub number-of-spec : {M : Type 1} → statement M
-number-of-spec =
+pub number_of_spec : {M : Type 1} → statement M
+number_of_spec =
     tie.close
     (tie.spec
     (λ c κs. search rules)

@@ -15,44 +15,44 @@ use Rattle.hour_count.proofs.until.Statement.{statement}
 use Rattle.hour_count.proofs.until.Tie as tie
 
 -- the fields that were found are those of the dates handed in
-first_found : (c : tie.After-known-told) → let a = c.before.before.before.before.before.before.args in
-    handed (kind_of a.kind) (bits_of a.first) ≡ Gives (fields_of c.before.a.given.0.0)
-first_found c = sym c.before.before.before.unpack.ensures ∙ ap opened_as c.before.a.given.1
+first_found : (c : tie.In-Fields) → let a = c.args in
+    handed (kind_of a.kind) (bits_of a.first) ≡ Gives (fields_of c.in-Fields.f)
+first_found c = sym c.unpack-a.ensures ∙ ap opened_as c.in-Fields.is
 
-second-found : (c : tie.After-known-told2) → let a = c.before.before.before.before.before.before.before.before.before.before.args in
-    handed (kind_of a.kind) (bits_of a.second) ≡ Gives (fields_of c.before.b.given.0.0)
-second-found c = sym c.before.before.before.unpack2.ensures ∙ ap opened_as c.before.b.given.1
+second-found : (c : tie.In-Fields-b) → let a = c.args in
+    handed (kind_of a.kind) (bits_of a.second) ≡ Gives (fields_of c.in-Fields-b.g)
+second-found c = sym c.unpack-b.ensures ∙ ap opened_as c.in-Fields-b.is
 
-counting : (c : tie.After-known-told2) → let a = c.before.before.before.before.before.before.before.before.before.before.args in
+counting : (c : tie.In-Fields-b) → let a = c.args in
     counts_in a.block (kind_of a.kind) ≡ true
 counting c =
-    let t = c.before.before.before.before.before.before.before.before in sym t.before.counts-in.ensures ∙ t.if1.true
+    let t = c in sym t.counts_in.ensures ∙ t.if-counts_in.true
 
-returns : tie.Need-returns
-returns c = rw (sym c.before.before.unpack.ensures ∙ ap opened_as c.enum_told.given.1)
+returns : tie.Need-returns-in_default
+returns c = rw (sym c.unpack-a.ensures ∙ ap opened_as c.in_default.is)
 
-returns-2 : tie.Need-returns-2
+returns-2 : tie.Need-returns-in_default-b
 returns-2 c =
-    rw (first_found c.before.before.before, sym c.before.before.unpack2.ensures ∙ ap opened_as c.enum-told2.given.1)
+    rw (first_found c.before.before, sym c.unpack-b.ensures ∙ ap opened_as c.in_default-b.is)
 
 between-requires : tie.Need-between-requires
 between-requires c κs =
-    let a = c.before.before.before.before.before.before.before.before.before.before.args in
+    let a = c.args in
     let t = counting c in let b = a.block in let k = kind_of a.kind in
-    (on-hour b k _ _ (first_found c.before.before.before.before) t, on-hour b k _ _ (second-found c) t, block-some b k t)
+    (on-hour b k _ _ (first_found c.before.before) t, on-hour b k _ _ (second-found c) t, block-some b k t)
 
-returns-3 : tie.Need-returns-3
+returns-3 : tie.Need-returns-in-Fields-b
 unfolding count_between
 returns-3 c =
-    let k = c.before in
-    rw (first_found k.before.before.before.before, second-found k, counting k) (ap Gives (held w32 c.between.type-inv ∙ c.between.ensures))
+    let k = c in
+    rw (first_found c.before.before.before, second-found c.before, counting c.before) (ap Gives (held w32 c.between.type_inv ∙ c.between.ensures))
 
-returns-4 : tie.Need-returns-4
+returns-4 : tie.Need-returns-else-counts_in
 unfolding count_between
-returns-4 c = rw (sym c.before.counts-in.ensures ∙ c.if1.false, lacking _ _, lacking _ _)
+returns-4 c = rw (sym c.counts_in.ensures ∙ c.if-counts_in.false, lacking _ _, lacking _ _)
 
-pub until-spec : {M : Type 1} → statement M
-until-spec =
+pub until_spec : {M : Type 1} → statement M
+until_spec =
     tie.close
     (tie.spec
     (λ c κs. search rules)

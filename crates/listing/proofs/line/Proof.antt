@@ -22,7 +22,7 @@ copy-requires c κs =
 
 returns-2 : tie.Need-returns-2
 returns-2 c =
-    let w = wrote (line_output c.before.before.before.before.before.before.before.before.before.before.before.args.s.now) c.before.before.before.before.before.before.before.before.before.before.before.args.out.now c.before.before.before.before.before.before.before.build.ensures.0.0 c.before.before.before.before.before.if1.false (copied (line_output c.before.before.before.before.before.before.before.before.before.before.before.args.s.now) _ c.before.before.before.before.before.before.before.before.before.before.before.args.out.now _ (taken (line_output c.before.before.before.before.before.before.before.before.before.before.before.args.s.now) _ c.before.before.before.before.before.before.before.build.new.1.0 c.before.before.before.before.before.before.before.build.result c.before.before.before.before.before.before.before.build.ensures.0.0 c.before.before.before.before.before.before.before.build.ensures.1) c.before.before.copy.ensures.1) in
+    let w = wrote (line_output c.before.before.before.before.before.before.before.before.before.before.before.args.s.now) c.before.before.before.before.before.before.before.before.before.before.before.args.out.now c.before.before.before.before.before.before.before.build.ensures.0.0 c.before.before.before.before.before.if1.false (copied (line_output c.before.before.before.before.before.before.before.before.before.before.before.args.s.now) _ c.before.before.before.before.before.before.before.before.before.before.before.args.out.now _ (taken (line_output c.before.before.before.before.before.before.before.before.before.before.before.args.s.now) _ c.before.before.before.before.before.before.before.build.new.1.0 c.before.before.before.before.before.before.before.build.result c.before.before.before.before.before.before.before.build.ensures.0.0 c.before.before.before.before.before.before.before.build.ensures.1) c.before.before.copy.ensures) in
     let s = wrote-whole w in (s.answered, (s.holds, w.room))
 
 pub line-spec : {M : Type 1} → statement M

@@ -14,7 +14,7 @@ returns c =
 
 returns-2 : tie.Need-returns-2
 returns-2 c =
-    let w = wrote (bytes "input too long\n") c.before.before.before.before.before.before.before.args.out.now refl (omega arith) c.before.before.copy.ensures.1 in let s = wrote-whole w in (s.answered, (s.holds, w.room))
+    let w = wrote (bytes "input too long\n") c.before.before.before.before.before.before.before.args.out.now refl (omega arith) c.before.before.copy.ensures in let s = wrote-whole w in (s.answered, (s.holds, w.room))
 
 pub too-long-spec : {M : Type 1} → statement M
 too-long-spec =

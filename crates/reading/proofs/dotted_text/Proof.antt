@@ -8,16 +8,16 @@ use Rattle.reading.proofs.Laws.{dotted-none, dotted-some}
 use Rattle.reading.proofs.dotted_text.Statement.{statement}
 use Rattle.reading.proofs.dotted_text.Tie as tie
 
-returns : tie.Need-returns
+returns : tie.Need-returns-in_default
 returns c =
-    rw (dotted-none (kind_of c.before.before.before.before.args.kind) c.before.before.before.before.args.value _ (sym (c.before.before.dotted-part.ensures c.before.before.before.before.args.value) ∙ ap (parts_as c.before.before.before.before.args.value) c.enum_told.given.1))
+    rw (dotted-none (kind_of c.args.kind) c.args.value _ (sym (c.dotted_part.ensures c.args.value) ∙ ap (parts_as c.args.value) c.in_default.is))
 
-returns-2 : tie.Need-returns-2
+returns-2 : tie.Need-returns
 returns-2 c =
-    rw (dotted-some (kind_of c.before.before.before.before.before.before.args.kind) c.before.before.before.before.before.before.args.value _ _ (sym (c.before.before.before.before.dotted-part.ensures c.before.before.before.before.before.before.args.value) ∙ ap (parts_as c.before.before.before.before.before.before.args.value) c.before.before.month.given.1)) (rw (to_z-of_z c.before.before.before.before.before.before.ranges.value) at c.settle-year.ensures)
+    rw (dotted-some (kind_of c.args.kind) c.args.value _ _ (sym (c.dotted_part.ensures c.args.value) ∙ ap (parts_as c.args.value) c.in-Fields.is)) (rw (to_z-of_z c.ranges.value) at c.settle_year.ensures)
 
-pub dotted-text-spec : {M : Type 1} → statement M
-dotted-text-spec =
+pub dotted_text_spec : {M : Type 1} → statement M
+dotted_text_spec =
     tie.close
     (tie.spec
     (λ c κs. search rules)

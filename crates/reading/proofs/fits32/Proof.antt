@@ -5,15 +5,15 @@ use Rattle.reading.proofs.Laws.{too-low, not_low}
 use Rattle.reading.proofs.fits32.Statement.{statement}
 use Rattle.reading.proofs.fits32.Tie as tie
 
-returns : tie.Need-returns
+returns : tie.Need-returns-then-value-ltminus2147483648
 returns c =
-    let s = c.before in sym (too-low s.args.value 2147483648 2147483647 (rw (to_z-of_z s.ranges.value) at c.if1.true))
+    let s = c in sym (too-low s.args.value 2147483648 2147483647 (rw (to_z-of_z s.ranges.value) at c.if-value-ltminus2147483648.true))
 
-returns-2 : tie.Need-returns-2
+returns-2 : tie.Need-returns
 returns-2 c =
-    let s = c.before in
+    let s = c in
     let e = to_z-of_z s.ranges.value in
-    rw (e, not_low s.args.value 2147483648 2147483647 (rw e at c.if1.false))
+    rw (e, not_low s.args.value 2147483648 2147483647 (rw e at c.if-value-ltminus2147483648.false))
 
-pub fits32-spec : {M : Type 1} → statement M
-fits32-spec = tie.close (tie.spec returns returns-2)
+pub fits32_spec : {M : Type 1} → statement M
+fits32_spec = tie.close (tie.spec returns returns-2)

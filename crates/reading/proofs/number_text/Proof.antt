@@ -15,47 +15,47 @@ use Rattle.reading.proofs.number_text.Statement.{statement}
 use Rattle.reading.proofs.number_text.Tie as tie
 
 -- whether the number fits 32 bits, and what was narrowed
-asked : (c : tie.After-fits32) → c.fits32.result ≡ fits32 c.before.before.before.args.value
-asked c = rw (to_z-of_z c.before.before.before.ranges.value) at c.fits32.ensures
+asked : (c : tie.After-fits32) → c.fits32.result ≡ fits32 c.args.value
+asked c = rw (to_z-of_z c.ranges.value) at c.fits32.ensures
 
-fits : (c : tie.Then2) → fits32 c.before.before.before.before.args.value ≡ true
-fits c = sym (asked c.before) ∙ c.if2.true
+fits : (c : tie.Then-fits32) → fits32 c.args.value ≡ true
+fits c = sym (asked c.before) ∙ c.if-fits32.true
 
 narrow32-requires : tie.Need-narrow32-requires
 narrow32-requires c κs =
-    let s = c.before.before.before.before in rw (to_z-of_z s.ranges.value) (fits_in s.args.value 2147483648 2147483647 (fits c))
+    let s = c in rw (to_z-of_z s.ranges.value) (fits_in s.args.value 2147483648 2147483647 (fits c))
 
-value-is : (c : tie.After-narrow32) → to_z w32 (of_z w32 c.narrow32.result) ≡ c.before.before.before.before.before.args.value
+value-is : (c : tie.After-narrow32) → to_z w32 (of_z w32 c.narrow32.result) ≡ c.args.value
 value-is c =
-    held w32 {z = c.narrow32.result} c.narrow32.type-inv ∙ (c.narrow32.ensures ∙ to_z-of_z c.before.before.before.before.before.ranges.value)
+    held w32 {z = c.narrow32.result} c.narrow32.type_inv ∙ (c.narrow32.ensures ∙ to_z-of_z c.ranges.value)
 
-returns : tie.Need-returns
+returns : tie.Need-returns-in_default
 returns c =
-    let f = c.before.before in
-    let n = f.before in
-    let s = n.before.before.before.before.before in
-    rw (number-none (kind_of s.args.kind) s.args.value (sym n.before.before.before.before.reads-number-texts.ensures ∙ n.before.before.before.if1.true) (fits n.before) (sym (rw (value-is n) at (f.number-fields.ensures.0 not_text)) ∙ ap (numbered_as not_text) c.enum_told.given.1))
+    let f = c in
+    let n = c in
+    let s = c in
+    rw (number-none (kind_of s.args.kind) s.args.value (sym n.reads_number_texts.ensures ∙ n.if-reads_number_texts.true) (fits c.before.before.before) (sym (rw (value-is c.before.before) at (f.number_fields.ensures.0 not_text)) ∙ ap (numbered_as not_text) c.in_default.is))
 
-returns-2 : tie.Need-returns-2
+returns-2 : tie.Need-returns-then-fits32
 returns-2 c =
-    let g = c.before.before.before in
-    let e = g.f.given.0.0 in
-    let f = g.before.before in
-    let n = f.before in
-    let s = n.before.before.before.before.before in
-    rw (number-some (kind_of s.args.kind) s.args.value (fields_of e) (sym n.before.before.before.before.reads-number-texts.ensures ∙ n.before.before.before.if1.true) (fits n.before) (sym (rw (value-is n) at (f.number-fields.ensures.0 not_text)) ∙ ap (numbered_as not_text) g.f.given.1)) (rw (held w16 {z = e.year} c.before.struct_told.given.0.1) at (c.settle.ensures not_text))
+    let g = c in
+    let e = g.in-Fields.f in
+    let f = c in
+    let n = c in
+    let s = c in
+    rw (number-some (kind_of s.args.kind) s.args.value (fields_of e) (sym n.reads_number_texts.ensures ∙ n.if-reads_number_texts.true) (fits c.before.before.before.before.before) (sym (rw (value-is c.before.before.before.before) at (f.number_fields.ensures.0 not_text)) ∙ ap (numbered_as not_text) g.in-Fields.is)) (rw (held w16 {z = e.year} c.struct_told-1.given.0.1) at (c.settle.ensures not_text))
 
-returns-3 : tie.Need-returns-3
+returns-3 : tie.Need-returns-else-fits32
 returns-3 c =
-    let s = c.before.before.before.before in
-    rw (number-out (kind_of s.args.kind) s.args.value (sym c.before.before.before.reads-number-texts.ensures ∙ c.before.before.if1.true) (sym (asked c.before) ∙ c.if2.false))
+    let s = c in
+    rw (number-out (kind_of s.args.kind) s.args.value (sym c.reads_number_texts.ensures ∙ c.if-reads_number_texts.true) (sym (asked c.before) ∙ c.if-fits32.false))
 
-returns-4 : tie.Need-returns-4
+returns-4 : tie.Need-returns-else-reads_number_texts
 returns-4 c =
-    rw (number-lacks (kind_of c.before.before.args.kind) c.before.before.args.value (sym c.before.reads-number-texts.ensures ∙ c.if1.false))
+    rw (number-lacks (kind_of c.args.kind) c.args.value (sym c.reads_number_texts.ensures ∙ c.if-reads_number_texts.false))
 
-pub number-text-spec : {M : Type 1} → statement M
-number-text-spec =
+pub number_text_spec : {M : Type 1} → statement M
+number_text_spec =
     tie.close
     (tie.spec
     (λ c κs. search rules)

@@ -7,13 +7,13 @@ use Rattle.reading.proofs.Laws.{ends, goes_on}
 use Rattle.reading.proofs.read_rest.Statement.{statement}
 use Rattle.reading.proofs.read_rest.Tie as tie
 
-returns : tie.Need-returns
+returns : tie.Need-returns-then-s-next
 returns c =
-    (rw (to_z-of_z c.before.before.before.ranges.value) at c.number-text.ensures) ∙ sym (ends (kind_of c.before.before.before.args.kind) c.before.before.before.args.value c.before.before.before.args.s.now c.before.before.before.args.next c.before.if1.true)
+    (rw (to_z-of_z c.ranges.value) at c.number_text.ensures) ∙ sym (ends (kind_of c.args.kind) c.args.value c.args.s.now c.args.next c.if-s-next.true)
 
-returns-2 : tie.Need-returns-2
+returns-2 : tie.Need-returns
 returns-2 c =
-    (rw (to_z-of_z c.before.before.before.ranges.value) at c.dotted-text.ensures) ∙ sym (goes_on (kind_of c.before.before.before.args.kind) c.before.before.before.args.value c.before.before.before.args.s.now c.before.before.before.args.next c.before.if1.false)
+    (rw (to_z-of_z c.ranges.value) at c.dotted_text.ensures) ∙ sym (goes_on (kind_of c.args.kind) c.args.value c.args.s.now c.args.next c.if-s-next.false)
 
-pub read-rest-spec : {M : Type 1} → statement M
-read-rest-spec = tie.close (tie.spec (λ c κs. search rules) returns (λ c κs. search rules) returns-2)
+pub read_rest_spec : {M : Type 1} → statement M
+read_rest_spec = tie.close (tie.spec (λ c κs. search rules) returns (λ c κs. search rules) returns-2)

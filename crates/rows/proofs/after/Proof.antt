@@ -7,21 +7,21 @@ use borrow.Author.Rules.{rules}
 use Rattle.rows.proofs.after.Statement.{statement}
 use Rattle.rows.proofs.after.Tie as tie
 
-shared-slice-read-if2 : tie.Need-shared-slice-read-if2
-shared-slice-read-if2 c = search rules
+shared_slice_read-if2 : tie.Need-bounds-s-at
+shared_slice_read-if2 c = search rules
 
-add-result : tie.Need-overflow-add-result
+add-result : tie.Need-overflow_add-result
 add-result c = search rules
 
-returns : tie.Need-returns
-returns c = rw (here _ _ c.before.before.if1.true, eq-eqb _ _ c.if2.true)
+returns : tie.Need-returns-then-s-at
+returns c = rw (here _ _ c.if-at-s.true, eq-eqb _ _ c.if-s-at.true)
 
-returns-2 : tie.Need-returns-2
+returns-2 : tie.Need-returns-else-s-at
 returns-2 c =
-    rw (past c.before.before.before.args.s.now nowhere (omega arith), here _ _ c.before.before.if1.true, ne_eqb _ _ c.if2.false)
+    rw (past c.args.s.now nowhere (omega arith), here _ _ c.if-at-s.true, ne_eqb _ _ c.if-s-at.false)
 
-returns-3 : tie.Need-returns-3
-returns-3 c = rw (past c.before.args.s.now nowhere (omega arith), past _ _ c.if1.false)
+returns-3 : tie.Need-returns-else-at-s
+returns-3 c = rw (past c.args.s.now nowhere (omega arith), past _ _ c.if-at-s.false)
 
-pub after-spec : {M : Type 1} → statement M
-after-spec = tie.close (tie.spec shared-slice-read-if2 add-result returns returns-2 returns-3)
+pub after_spec : {M : Type 1} → statement M
+after_spec = tie.close (tie.spec shared_slice_read-if2 add-result returns returns-2 returns-3)

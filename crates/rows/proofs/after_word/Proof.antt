@@ -12,25 +12,25 @@ use Rattle.rows.proofs.Laws.{word-goes-on}
 use Rattle.rows.proofs.after_word.Statement.{statement}
 use Rattle.rows.proofs.after_word.Tie as tie
 
-abbrev invariant-loop : tie.invariant-loop
+abbrev invariant-loop : tie.invariant-loop-i
 invariant-loop s at word i₀ place₀ i place = (after_word (drop i word) (drop place s) ≡ after_word word (drop at s)) × (i ≤ length word)
 
-abbrev decreases-loop : tie.decreases-loop
+abbrev decreases-loop : tie.decreases-loop-i
 decreases-loop s at word i₀ place₀ i place = length word - i
 
-loop-holds : tie.Need-loop-init invariant-loop decreases-loop
+loop-holds : tie.Need-loop-i-init invariant-loop decreases-loop
 loop-holds c = (refl, omega arith)
 
-loop-again : tie.Need-loop-preserved invariant-loop decreases-loop
+loop-again : tie.Need-loop-i-preserved invariant-loop decreases-loop
 loop-again c =
-    (ap (after_word (drop (c.before.before.before.loop.i + 1) c.before.before.before.before.before.before.args.word.now)) c.after.ensures ∙ sym (word-goes-on c.before.before.before.before.before.before.args.word.now c.before.before.before.loop.i (drop c.before.before.before.loop.place c.before.before.before.before.before.before.args.s.now) c.before.before.loop-test.true) ∙ c.before.before.before.loop.invariant.0, omega arith)
+    (ap (after_word (drop (c.loop-i.i + 1) c.args.word.now)) c.after-place.ensures ∙ sym (word-goes-on c.args.word.now c.loop-i.i (drop c.loop-i.place c.args.s.now) c.loop-i-test.true) ∙ c.loop-i.invariant.0, omega arith)
 
 returns : tie.Need-returns invariant-loop decreases-loop
 returns c =
-    ap (λ (w : List ℕ). after_word w (drop c.before.loop.place c.before.before.before.before.args.s.now)) (sym (past c.before.before.before.before.args.word.now c.before.loop.i c.loop-test.false)) ∙ c.before.loop.invariant.0
+    ap (λ (w : List ℕ). after_word w (drop c.loop-i.place c.args.s.now)) (sym (past c.args.word.now c.loop-i.i c.loop-i-test.false)) ∙ c.loop-i.invariant.0
 
-pub after-word-spec : {M : Type 1} → statement M
-after-word-spec =
+pub after_word_spec : {M : Type 1} → statement M
+after_word_spec =
     tie.close
     (tie.spec
     invariant-loop

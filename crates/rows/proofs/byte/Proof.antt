@@ -4,14 +4,14 @@ use borrow.Author.Rules.{rules}
 use Rattle.rows.proofs.byte.Statement.{statement}
 use Rattle.rows.proofs.byte.Tie as tie
 
-shared-slice-read-result : tie.Need-shared-slice-read-result
-shared-slice-read-result c = search rules
+shared_slice_read-result : tie.Need-bounds-s-at
+shared_slice_read-result c = search rules
 
-returns : tie.Need-returns
-returns c = rw (here _ _ c.before.if1.true)
+returns : tie.Need-returns-then-at-s
+returns c = rw (here _ _ c.if-at-s.true)
 
-returns-2 : tie.Need-returns-2
-returns-2 c = rw (past _ _ c.if1.false)
+returns-2 : tie.Need-returns
+returns-2 c = rw (past _ _ c.if-at-s.false)
 
-pub byte-spec : {M : Type 1} → statement M
-byte-spec = tie.close (tie.spec shared-slice-read-result returns returns-2)
+pub byte_spec : {M : Type 1} → statement M
+byte_spec = tie.close (tie.spec shared_slice_read-result returns returns-2)

@@ -10,37 +10,37 @@ use Rattle.rows.proofs.Laws.{digit-goes-on, digit_low, digit-high, digit-end, di
 use Rattle.rows.proofs.digits.Statement.{statement}
 use Rattle.rows.proofs.digits.Tie as tie
 
-abbrev invariant-loop : tie.invariant-loop
+abbrev invariant-loop : tie.invariant-loop-at
 invariant-loop s from value₀ at₀ value at = (row_digits value (drop at s) ≡ row_digits 0 (drop from s)) × (value ≤ most_of_row)
 
-abbrev decreases-loop : tie.decreases-loop
+abbrev decreases-loop : tie.decreases-loop-at
 decreases-loop s from value₀ at₀ value at = length s - at
 
-loop-holds : tie.Need-loop-init invariant-loop decreases-loop
+loop-holds : tie.Need-loop-at-init invariant-loop decreases-loop
 loop-holds c = (refl, omega arith)
 
-returns : tie.Need-returns invariant-loop decreases-loop
+returns : tie.Need-returns-then-b-lt48 invariant-loop decreases-loop
 returns c =
-    let f = c.found.ensures in rw (← c.before.before.before.before.loop.invariant.0, digit_low _ _ _ c.before.before.before.before.loop.invariant.1 c.before.before.before.loop-test.true c.before.if1.true, f.0, f.1, f.2)
+    let f = c.found.ensures in rw (← c.loop-at.invariant.0, digit_low _ _ _ c.loop-at.invariant.1 c.loop-at-test.true c.if-b-lt48.true, f.0, f.1, f.2)
 
-returns-2 : tie.Need-returns-2 invariant-loop decreases-loop
+returns-2 : tie.Need-returns-then-b-gt57 invariant-loop decreases-loop
 returns-2 c =
-    let f = c.found2.ensures in rw (← c.before.before.before.before.before.loop.invariant.0, digit-high _ _ _ c.before.before.before.before.before.loop.invariant.1 c.before.before.before.before.loop-test.true c.before.before.if1.false c.before.if2.true, f.0, f.1, f.2)
+    let f = c.found-then-b-gt57.ensures in rw (← c.loop-at.invariant.0, digit-high _ _ _ c.loop-at.invariant.1 c.loop-at-test.true c.if-b-lt48.false c.if-b-gt57.true, f.0, f.1, f.2)
 
-returns-3 : tie.Need-returns-3 invariant-loop decreases-loop
+returns-3 : tie.Need-returns-then-value-gt99999999999999999 invariant-loop decreases-loop
 returns-3 c =
-    rw (c.nothing.ensures, ← c.before.before.before.before.before.before.loop.invariant.0, digit-goes-on _ _ _ c.before.before.before.before.before.loop-test.true c.before.before.before.if1.false c.before.before.if2.false, digit-too-large (c.before.before.before.before.before.before.loop.value * 10 + (get_or c.before.before.before.before.before.before.before.before.args.s.now c.before.before.before.before.before.before.loop.at 0 - 48)) _ (omega arith))
+    rw (c.nothing.ensures, ← c.loop-at.invariant.0, digit-goes-on _ _ _ c.loop-at-test.true c.if-b-lt48.false c.if-b-gt57.false, digit-too-large (c.loop-at.value * 10 + (get_or c.args.s.now c.loop-at.at 0 - 48)) _ (omega arith))
 
-loop-again : tie.Need-loop-preserved invariant-loop decreases-loop
+loop-again : tie.Need-loop-at-preserved invariant-loop decreases-loop
 loop-again c =
-    (sym (digit-goes-on _ _ _ c.before.before.before.before.loop-test.true c.before.before.if1.false c.before.if2.false) ∙ c.before.before.before.before.before.loop.invariant.0, omega arith)
+    (sym (digit-goes-on _ _ _ c.loop-at-test.true c.if-b-lt48.false c.if-b-gt57.false) ∙ c.loop-at.invariant.0, omega arith)
 
-returns-4 : tie.Need-returns-4 invariant-loop decreases-loop
+returns-4 : tie.Need-returns invariant-loop decreases-loop
 returns-4 c =
-    let f = c.found3.ensures in rw (← c.before.before.loop.invariant.0, digit-end _ _ _ c.before.before.loop.invariant.1 c.before.loop-test.false, f.0, f.1, f.2)
+    let f = c.found-2.ensures in rw (← c.loop-at.invariant.0, digit-end _ _ _ c.loop-at.invariant.1 c.loop-at-test.false, f.0, f.1, f.2)
 
-pub digits-spec : {M : Type 1} → statement M
-digits-spec =
+pub digits_spec : {M : Type 1} → statement M
+digits_spec =
     tie.close
     (tie.spec
     invariant-loop

@@ -6,20 +6,20 @@ use borrow.Author.Rules.{rules}
 use Rattle.rows.proofs.ends.Statement.{statement}
 use Rattle.rows.proofs.ends.Tie as tie
 
-shared-slice-read-if2 : tie.Need-shared-slice-read-if2
-shared-slice-read-if2 c = search rules
+shared_slice_read-if2 : tie.Need-bounds-s-at
+shared_slice_read-if2 c = search rules
 
-add-result : tie.Need-overflow-add-result
+add-result : tie.Need-overflow_add-result
 add-result c = search rules
 
-returns : tie.Need-returns
-returns c = rw (here _ _ c.before.before.if1.true, eq-eqb _ _ c.if2.true, at-end _ _)
+returns : tie.Need-returns-then-s-at-eq10
+returns c = rw (here _ _ c.if-at-s.true, eq-eqb _ _ c.if-s-at-eq10.true, at-end _ _)
 
-returns-2 : tie.Need-returns-2
-returns-2 c = rw (here _ _ c.before.before.if1.true, ne_eqb _ _ c.if2.false)
+returns-2 : tie.Need-returns-else-s-at-eq10
+returns-2 c = rw (here _ _ c.if-at-s.true, ne_eqb _ _ c.if-s-at-eq10.false)
 
-returns-3 : tie.Need-returns-3
-returns-3 c = rw (past _ _ c.if1.false)
+returns-3 : tie.Need-returns-else-at-s
+returns-3 c = rw (past _ _ c.if-at-s.false)
 
-pub ends-spec : {M : Type 1} → statement M
-ends-spec = tie.close (tie.spec shared-slice-read-if2 add-result returns returns-2 returns-3)
+pub ends_spec : {M : Type 1} → statement M
+ends_spec = tie.close (tie.spec shared_slice_read-if2 add-result returns returns-2 returns-3)

@@ -4,16 +4,16 @@ use borrow.Author.Rules.{rules}
 use Rattle.rows.proofs.natural.Statement.{statement}
 use Rattle.rows.proofs.natural.Tie as tie
 
-returns : tie.Need-returns
+returns : tie.Need-returns-then-digit_at
 unfolding natural_of
 returns c =
-    rw (c.digits.ensures, ← c.before.before.digit_at.ensures, c.before.if1.true)
+    rw (c.digits.ensures, ← c.digit_at.ensures, c.if-digit_at.true)
 
-returns-2 : tie.Need-returns-2
+returns-2 : tie.Need-returns
 unfolding natural_of
 returns-2 c =
-    rw (c.nothing.ensures, ← c.before.before.digit_at.ensures, c.before.if1.false)
+    rw (c.nothing.ensures, ← c.digit_at.ensures, c.if-digit_at.false)
 
-pub natural-spec : {M : Type 1} → statement M
-natural-spec =
+pub natural_spec : {M : Type 1} → statement M
+natural_spec =
     tie.close (tie.spec (λ c κs. search rules) (λ c κs. search rules) returns (λ c κs. search rules) returns-2)

@@ -8,5 +8,5 @@ use Rattle.rows.proofs.nothing.Tie as tie
 returns : tie.Need-returns
 returns c = rw (past c.args.s.now nowhere (omega arith))
 
-pub nothing-spec : {M : Type 1} → statement M
-nothing-spec = tie.close (tie.spec returns)
+pub nothing_spec : {M : Type 1} → statement M
+nothing_spec = tie.close (tie.spec returns)

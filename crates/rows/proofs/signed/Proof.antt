@@ -5,16 +5,16 @@ use borrow.Author.Rules.{rules}
 use Rattle.rows.proofs.signed.Statement.{statement}
 use Rattle.rows.proofs.signed.Tie as tie
 
-returns : tie.Need-returns
+returns : tie.Need-returns-then-byte-eq45
 unfolding signed_of
 returns c =
-    rw (← c.before.before.before.byte.ensures, eq-eqb _ _ c.before.before.if1.true, ← c.before.after.ensures, ← c.natural.ensures)
+    rw (← c.byte.ensures, eq-eqb _ _ c.if-byte-eq45.true, ← c.after.ensures, ← c.natural-n.ensures)
 
-returns-2 : tie.Need-returns-2
+returns-2 : tie.Need-returns
 unfolding signed_of
-returns-2 c = rw (c.natural2.ensures, ← c.before.before.byte.ensures, ne_eqb _ _ c.before.if1.false)
+returns-2 c = rw (c.natural.ensures, ← c.byte.ensures, ne_eqb _ _ c.if-byte-eq45.false)
 
-pub signed-spec : {M : Type 1} → statement M
-signed-spec =
+pub signed_spec : {M : Type 1} → statement M
+signed_spec =
     tie.close
     (tie.spec (λ c κs. search rules) (λ c κs. search rules) (λ c κs. search rules) returns (λ c κs. search rules) returns-2)

@@ -12,20 +12,20 @@ use borrow.Author.Rules.{rules}
 use Rattle.rows.proofs.whole32.Statement.{statement}
 use Rattle.rows.proofs.whole32.Tie as tie
 
-returns : tie.Need-returns
+returns : tie.Need-returns-then-dn-le2147483648
 unfolding whole_of
 returns c =
-    rw (← c.before.before.before.signed.ensures, le-leb _ _ c.before.before.if1.true, le-leb _ _ c.before.if2.true) (read_of _ (held w32 c.int32.type-inv ∙ c.int32.ensures))
+    rw (← c.signed-n.ensures, le-leb _ _ c.if-up-le2147483647.true, le-leb _ _ c.if-dn-le2147483648.true) (read_of _ (held w32 c.int32.type_inv ∙ c.int32.ensures))
 
-returns-2 : tie.Need-returns-2
+returns-2 : tie.Need-returns-else-dn-le2147483648
 unfolding whole_of
 returns-2 c =
-    rw (past c.before.before.before.before.args.s.now nowhere (omega arith), ← c.before.before.signed.ensures, le-leb _ _ c.before.if1.true, lt-leb _ _ c.if2.false)
+    rw (past c.args.s.now nowhere (omega arith), ← c.signed-n.ensures, le-leb _ _ c.if-up-le2147483647.true, lt-leb _ _ c.if-dn-le2147483648.false)
 
-returns-3 : tie.Need-returns-3
+returns-3 : tie.Need-returns-else-up-le2147483647
 unfolding whole_of
 returns-3 c =
-    rw (past c.before.before.before.args.s.now nowhere (omega arith), ← c.before.signed.ensures, lt-leb _ _ c.if1.false)
+    rw (past c.args.s.now nowhere (omega arith), ← c.signed-n.ensures, lt-leb _ _ c.if-up-le2147483647.false)
 
-pub whole32-spec : {M : Type 1} → statement M
-whole32-spec = tie.close (tie.spec (λ c κs. search rules) (λ c κs. search rules) returns returns-2 returns-3)
+pub whole32_spec : {M : Type 1} → statement M
+whole32_spec = tie.close (tie.spec (λ c κs. search rules) (λ c κs. search rules) returns returns-2 returns-3)

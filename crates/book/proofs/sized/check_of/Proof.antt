@@ -15,54 +15,54 @@ use Rattle.book.proofs.sized.check_of.Statement.{statement}
 use Rattle.book.proofs.sized.check_of.Tie as tie
 
 -- the frame has n pieces
-count : (c : tie.After-known-told) →
-    let a = c.before.before.before.before.before.args in
-    (framed (frame_of a.size a.most a.version) a.b.now then λ rs. Gives (length rs)) ≡ Gives c.before.framed.given.0.0
+count : (c : tie.In-Pieces) →
+    let a = c.args in
+    (framed (frame_of a.size a.most a.version) a.b.now then λ rs. Gives (length rs)) ≡ Gives c.in-Pieces.n
 count c =
-    let a = c.before.before.before.before.before.args in
+    let a = c.args in
     sym (counted_is (frame_of a.size a.most a.version) a.b.now)
-    ∙ sym c.before.before.before.pieces-in.ensures ∙ ap framed_as c.before.framed.given.1
+    ∙ sym c.pieces_in-framed.ensures ∙ ap framed_as c.in-Pieces.is
 
-first-bad-requires : tie.Need-first-bad-requires
-first-bad-requires c κs =
-    let start = c.before.before.before.before.before in
+first_bad-requires : tie.Need-first_bad-bad-requires
+first_bad-requires c κs =
+    let start = c in
     let a = start.args in
     let sized = sensible a.size a.most a.version a.plain start.requires.0 start.requires.1 in
     (start.requires.0, count_fits (frame_of a.size a.most a.version) sized a.b.now _ (count c))
 
-returns : tie.Need-returns
+returns : tie.Need-returns-then-bad-n
 returns c =
-    let start = c.before.before.before.before.before.before.before in
+    let start = c in
     let a = start.args in
     let sized = sensible a.size a.most a.version a.plain start.requires.0 start.requires.1 in
-    sym (one-bad (book_of a.size a.most a.version a.plain) sized a.b.now _ (count c.before.before) c.before.first-bad.ensures c.if1.true)
+    sym (one-bad (book_of a.size a.most a.version a.plain) sized a.b.now _ (count c.before.before) c.first_bad-bad.ensures c.if-bad-n.true)
 
-returns-2 : tie.Need-returns-2
+returns-2 : tie.Need-returns-else-bad-n
 returns-2 c =
-    let start = c.before.before.before.before.before.before.before in
+    let start = c in
     let a = start.args in
     let sized = sensible a.size a.most a.version a.plain start.requires.0 start.requires.1 in
-    sym (all-good (book_of a.size a.most a.version a.plain) sized a.b.now _ (count c.before.before) c.before.first-bad.ensures c.if1.false)
+    sym (all-good (book_of a.size a.most a.version a.plain) sized a.b.now _ (count c.before.before) c.first_bad-bad.ensures c.if-bad-n.false)
 
-returns-3 : tie.Need-returns-3
+returns-3 : tie.Need-returns-in-BadLength
 returns-3 c =
-    let a = c.before.before.before.before.args in
+    let a = c.args in
     sym (frame_refused (book_of a.size a.most a.version a.plain) a.b.now _
-    (sym (counted_is (frame_of a.size a.most a.version) a.b.now) ∙ sym c.before.before.pieces-in.ensures ∙ ap framed_as c.enum_told.given.1))
+    (sym (counted_is (frame_of a.size a.most a.version) a.b.now) ∙ sym c.pieces_in-framed.ensures ∙ ap framed_as c.in-BadLength.is))
 
-returns-4 : tie.Need-returns-4
+returns-4 : tie.Need-returns-in-BadVersion
 returns-4 c =
-    let a = c.before.before.before.before.args in
+    let a = c.args in
     sym (frame_refused (book_of a.size a.most a.version a.plain) a.b.now _
-    (sym (counted_is (frame_of a.size a.most a.version) a.b.now) ∙ sym c.before.before.pieces-in.ensures ∙ ap framed_as c.enum-told2.given.1))
+    (sym (counted_is (frame_of a.size a.most a.version) a.b.now) ∙ sym c.pieces_in-framed.ensures ∙ ap framed_as c.in-BadVersion.is))
 
-pub check-of-spec : {M : Type 1} → statement M
-check-of-spec =
+pub check_of_spec : {M : Type 1} → statement M
+check_of_spec =
     tie.close
     (tie.spec
     (λ c κs. search rules)
     (λ c. search rules)
-    first-bad-requires
+    first_bad-requires
     returns
     (λ c. search rules)
     (λ c. search rules)

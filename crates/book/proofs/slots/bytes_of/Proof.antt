@@ -13,14 +13,14 @@ use Rattle.book.proofs.slots.bytes_of.Tie as tie
 returns : tie.Need-returns
 unfolding entry_bytes
 returns c =
-    let d = c.before.before.before.args.date in
-    let year : c.twos-complement.result ≡ twos_complement d.year = c.twos-complement.ensures ∙ ap twos_complement (held w16 {z = d.year} c.before.struct_told.given.0.1) in
-    let small : c.twos-complement.result < 65536 = omega arith in
+    let d = c.args.date in
+    let year : c.twos_complement-year.result ≡ twos_complement d.year = c.twos_complement-year.ensures ∙ ap twos_complement (held w16 {z = d.year} c.struct_told-1.given.0.1) in
+    let small : c.twos_complement-year.result < 65536 = omega arith in
     let word : d.word < 65536 = omega arith in
-    rw (← year, two-bytes-of c.twos-complement.result small, two-bytes-of d.word word, ← c.before.before.kind-code.ensures)
+    rw (← year, two-bytes-of c.twos_complement-year.result small, two-bytes-of d.word word, ← c.kind_code-code.ensures)
 
-pub bytes-of-spec : {M : Type 1} → statement M
-bytes-of-spec =
+pub bytes_of_spec : {M : Type 1} → statement M
+bytes_of_spec =
     tie.close
     (tie.spec
     (λ c κs. search rules)

@@ -5,16 +5,16 @@ use borrow.Author.Rules.{rules}
 use Rattle.book.proofs.slots.field_at.Statement.{statement}
 use Rattle.book.proofs.slots.field_at.Tie as tie
 
-returns : tie.Need-returns
+returns : tie.Need-returns-then-size-lt-FIELD_RECORD_SIZE
 returns c =
-    sym (field-none c.before.before.args.b.now c.before.before.args.at c.before.before.args.size c.before.before.requires c.if1.true)
+    sym (field-none c.args.b.now c.args.at c.args.size c.requires c.if-size-lt-FIELD_RECORD_SIZE.true)
 
-returns-2 : tie.Need-returns-2
+returns-2 : tie.Need-returns
 returns-2 c =
-    c.join2.ensures ∙ sym (field-there c.before.before.before.before.before.args.b.now c.before.before.before.before.before.args.at c.before.before.before.before.before.args.size c.before.before.before.before.before.requires c.before.before.before.if1.false)
+    c.join2.ensures ∙ sym (field-there c.args.b.now c.args.at c.args.size c.requires c.if-size-lt-FIELD_RECORD_SIZE.false)
 
-pub field-at-spec : {M : Type 1} → statement M
-field-at-spec =
+pub field_at_spec : {M : Type 1} → statement M
+field_at_spec =
     tie.close
     (tie.spec
     returns

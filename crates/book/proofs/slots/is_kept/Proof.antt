@@ -9,12 +9,12 @@ use borrow.Author.Rules.{rules}
 use Rattle.book.proofs.slots.is_kept.Statement.{statement}
 use Rattle.book.proofs.slots.is_kept.Tie as tie
 
-returns : tie.Need-returns
+returns : tie.Need-returns-then-field-eq0
 returns c =
-    rw (c.before.before.if1.true, eq-eqb c.before.before.before.args.field no_field c.before.if2.true) (ap (λ (m : ℕ). eqb m no_mark) c.mark_of.ensures)
+    rw (c.if-plain.true, eq-eqb c.args.field no_field c.if-field-eq0.true) (ap (λ (m : ℕ). eqb m no_mark) c.mark_of.ensures)
 
-returns-2 : tie.Need-returns-2
-returns-2 c = rw (c.before.if1.true, ne_eqb c.before.before.args.field no_field c.if2.false)
+returns-2 : tie.Need-returns-then-plain
+returns-2 c = rw (c.if-plain.true, ne_eqb c.args.field no_field c.if-field-eq0.false)
 
-pub is-kept-spec : {M : Type 1} → statement M
-is-kept-spec = tie.close (tie.spec (λ c κs. search rules) returns returns-2 (λ c. search rules))
+pub is_kept_spec : {M : Type 1} → statement M
+is_kept_spec = tie.close (tie.spec (λ c κs. search rules) returns returns-2 (λ c. search rules))

@@ -6,8 +6,8 @@ use Rattle.book.proofs.slots.put.Tie as tie
 
 returns : tie.Need-returns
 returns c =
-    let a = c.before.before.before.before.before.before.args in
-    put-at a.b.now a.piece.now _ a.at c.before.before.before.before.before.before.requires c.before.before.copy.ensures.1
+    let a = c.args in
+    put-at a.b.now a.piece.now _ a.at c.requires c.copy.ensures
 
 pub put_spec : {M : Type 1} → statement M
 put_spec =

@@ -6,11 +6,11 @@ use Rattle.book.proofs.slots.slot_at.Tie as tie
 
 returns : tie.Need-returns
 returns c =
-    let a = c.before.before.before.before.before.before.before.before.args in
-    rw (entry-at a.b.now a.at a.size c.before.before.before.before.before.before.before.before.requires.1 a.plain c.before.before.before.before.before.before.before.before.requires.0, ← c.before.before.before.before.before.before.field_at.ensures) c.slot_of.ensures
+    let a = c.args in
+    rw (entry-at a.b.now a.at a.size c.requires.1 a.plain c.requires.0, ← c.field_at-field.ensures) c.slot_of.ensures
 
-pub slot-at-spec : {M : Type 1} → statement M
-slot-at-spec =
+pub slot_at_spec : {M : Type 1} → statement M
+slot_at_spec =
     tie.close
     (tie.spec
     (λ c κs. search rules)

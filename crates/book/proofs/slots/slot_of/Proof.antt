@@ -15,36 +15,36 @@ use Rattle.book.proofs.slots.slot_of.Statement.{statement}
 use Rattle.book.proofs.slots.slot_of.Tie as tie
 
 -- the year is that of its two bytes
-year : (c : tie.After-year-of-twos) →
-    to_z w16 (of_z w16 c.year-of-twos.result)
-    ≡ year_of_twos (c.before.before.before.before.before.before.args.y1 * 256 + c.before.before.before.before.before.before.args.y0)
-year c = held w16 c.year-of-twos.type-inv ∙ c.year-of-twos.ensures ∙ ap year_of_twos c.before.join2.ensures
+year : (c : tie.After-year_of_twos-year) →
+    to_z w16 (of_z w16 c.year_of_twos-year.result)
+    ≡ year_of_twos (c.args.y1 * 256 + c.args.y0)
+year c = held w16 c.year_of_twos-year.type_inv ∙ c.year_of_twos-year.ensures ∙ ap year_of_twos c.join2.ensures
 
 -- the kind is that of the code
-kind : (c : tie.After-is-kept) → kind_of_code c.before.before.before.before.before.before.before.before.args.code ≡ Gives (kind_of c.before.before.before.before.before.coded.given.0.0)
-kind c = sym c.before.before.before.before.before.before.before.kind-of-code.ensures ∙ ap coded_as c.before.before.before.before.before.coded.given.1
+kind : (c : tie.After-is_kept) → kind_of_code c.args.code ≡ Gives (kind_of c.in-Kind.kind)
+kind c = sym c.kind_of_code-coded.ensures ∙ ap coded_as c.in-Kind.is
 
-returns : tie.Need-returns
+returns : tie.Need-returns-then-is_of_kind
 returns c =
-    let m = c.before.before.before in
-    sym (of-kind _ _ _ _ _ _ _ (kind m) (year m.before.before) c.before.before.before.before.join22.ensures (sym c.before.before.before.is-kept.ensures ∙ c.before.before.if1.true) (sym c.before.is-of-kind.ensures ∙ c.if2.true))
+    let m = c in
+    sym (of-kind _ _ _ _ _ _ _ (kind c.before.before.before) (year c.before.before.before.before.before) c.join2-word.ensures (sym c.is_kept.ensures ∙ c.if-is_kept.true) (sym c.is_of_kind.ensures ∙ c.if-is_of_kind.true))
 
-returns-2 : tie.Need-returns-2
+returns-2 : tie.Need-returns-else-is_of_kind
 returns-2 c =
-    let m = c.before.before.before in
-    sym (not-of-kind _ _ _ _ _ _ _ (kind m) (year m.before.before) c.before.before.before.before.join22.ensures (sym c.before.before.before.is-kept.ensures ∙ c.before.before.if1.true) (sym c.before.is-of-kind.ensures ∙ c.if2.false))
+    let m = c in
+    sym (not-of-kind _ _ _ _ _ _ _ (kind c.before.before.before) (year c.before.before.before.before.before) c.join2-word.ensures (sym c.is_kept.ensures ∙ c.if-is_kept.true) (sym c.is_of_kind.ensures ∙ c.if-is_of_kind.false))
 
-returns-3 : tie.Need-returns-3
+returns-3 : tie.Need-returns-else-is_kept
 returns-3 c =
-    let m = c.before in
-    sym (not-kept _ _ _ _ _ _ _ (kind m) (year m.before.before) c.before.before.join22.ensures (sym c.before.is-kept.ensures ∙ c.if1.false))
+    let m = c in
+    sym (not-kept _ _ _ _ _ _ _ (kind c.before) (year c.before.before.before) c.join2-word.ensures (sym c.is_kept.ensures ∙ c.if-is_kept.false))
 
-returns-4 : tie.Need-returns-4
+returns-4 : tie.Need-returns-in-None
 returns-4 c =
-    sym (no_kind _ _ _ _ _ _ _ (sym c.before.before.kind-of-code.ensures ∙ ap coded_as c.enum_told.given.1))
+    sym (no_kind _ _ _ _ _ _ _ (sym c.kind_of_code-coded.ensures ∙ ap coded_as c.in-None.is))
 
-pub slot-of-spec : {M : Type 1} → statement M
-slot-of-spec =
+pub slot_of_spec : {M : Type 1} → statement M
+slot_of_spec =
     tie.close
     (tie.spec
     (λ c κs. search rules)

@@ -6,13 +6,13 @@ use borrow.Author.Rules.{rules}
 use Rattle.book.proofs.slots.sound_at.Statement.{statement}
 use Rattle.book.proofs.slots.sound_at.Tie as tie
 
-returns : tie.Need-returns
+returns : tie.Need-returns-in-Record
 returns c =
-    ap given (ap slot_as (sym c.enum_told.given.1) ∙ c.before.before.slot_at.ensures)
+    ap given (ap slot_as (sym c.in-Record.is) ∙ c.slot_at-slot.ensures)
 
-returns-2 : tie.Need-returns-2
+returns-2 : tie.Need-returns-in-None
 returns-2 c =
-    ap given (ap slot_as (sym c.enum-told2.given.1) ∙ c.before.before.slot_at.ensures)
+    ap given (ap slot_as (sym c.in-None.is) ∙ c.slot_at-slot.ensures)
 
-pub sound-at-spec : {M : Type 1} → statement M
-sound-at-spec = tie.close (tie.spec (λ c κs. search rules) (λ c. search rules) (λ c. search rules) returns returns-2)
+pub sound_at_spec : {M : Type 1} → statement M
+sound_at_spec = tie.close (tie.spec (λ c κs. search rules) (λ c. search rules) (λ c. search rules) returns returns-2)

@@ -8,20 +8,20 @@ use borrow.Author.Rules.{rules}
 use Rattle.field_table.proofs.allowed.declared_kind.Statement.{statement}
 use Rattle.field_table.proofs.allowed.declared_kind.Tie as tie
 
-returns : tie.Need-returns
+returns : tie.Need-returns-then-reads_numbers
 returns c =
-    sym (among reads_numbers c.before.before.before.before.before.before.args.code true (sym c.if1.true ∙ c.before.reads-numbers.ensures) (ap coded_as (sym c.before.before.before.coded.given.1) ∙ c.before.before.before.before.before.kind-of-code.ensures))
+    sym (among reads_numbers c.args.code true (sym c.if-reads_numbers.true ∙ c.reads_numbers.ensures) (ap coded_as (sym c.in-Kind.is) ∙ c.kind_of_code-coded.ensures))
 
-returns-2 : tie.Need-returns-2
+returns-2 : tie.Need-returns-else-reads_numbers
 returns-2 c =
-    sym (among reads_numbers c.before.before.before.before.before.before.args.code false (sym c.if1.false ∙ c.before.reads-numbers.ensures) (ap coded_as (sym c.before.before.before.coded.given.1) ∙ c.before.before.before.before.before.kind-of-code.ensures))
+    sym (among reads_numbers c.args.code false (sym c.if-reads_numbers.false ∙ c.reads_numbers.ensures) (ap coded_as (sym c.in-Kind.is) ∙ c.kind_of_code-coded.ensures))
 
-returns-3 : tie.Need-returns-3
+returns-3 : tie.Need-returns-in-None
 returns-3 c =
-    sym (among_none reads_numbers c.before.before.before.args.code (ap coded_as (sym c.enum_told.given.1) ∙ c.before.before.kind-of-code.ensures))
+    sym (among_none reads_numbers c.args.code (ap coded_as (sym c.in-None.is) ∙ c.kind_of_code-coded.ensures))
 
-pub declared-kind-spec : {M : Type 1} → statement M
-declared-kind-spec =
+pub declared_kind_spec : {M : Type 1} → statement M
+declared_kind_spec =
     tie.close
     (tie.spec
     (λ c κs. search rules)

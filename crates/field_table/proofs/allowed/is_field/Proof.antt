@@ -4,11 +4,11 @@ use borrow.Author.Tests.{le-leb, lt-leb}
 use Rattle.field_table.proofs.allowed.is_field.Statement.{statement}
 use Rattle.field_table.proofs.allowed.is_field.Tie as tie
 
-returns : tie.Need-returns
-returns c = rw (lt-leb 1 c.before.args.field (omega arith))
+returns : tie.Need-returns-then-field-lt1
+returns c = rw (lt-leb 1 c.args.field (omega arith))
 
-returns-2 : tie.Need-returns-2
-returns-2 c = rw (le-leb 1 c.before.args.field (omega arith))
+returns-2 : tie.Need-returns
+returns-2 c = rw (le-leb 1 c.args.field (omega arith))
 
-pub is-field-spec : {M : Type 1} → statement M
-is-field-spec = tie.close (tie.spec returns returns-2)
+pub is_field_spec : {M : Type 1} → statement M
+is_field_spec = tie.close (tie.spec returns returns-2)

@@ -7,20 +7,20 @@ use borrow.Author.Rules.{rules}
 use Rattle.field_table.proofs.by_key.declared_at.Statement.{statement}
 use Rattle.field_table.proofs.by_key.declared_at.Tie as tie
 
-cast-field : tie.Need-overflow-cast-field
+cast-field : tie.Need-overflow_cast-field
 cast-field c =
-    omega (arith, key_fits c.before.before.args.key-size _ c.before.before.requires.0.1 c.key-at.ensures.1)
+    omega (arith, key_fits c.args.key_size _ c.requires.0.1 c.key_at-field.ensures.1)
 
-returns : tie.Need-returns
+returns : tie.Need-returns-in-Kind
 returns c =
-    rw c.before.before.before.before.before.key-at.ensures.0 (sym (entry_here c.before.before.before.before.before.before.before.args.key-size c.before.before.before.before.before.before.before.args.b.now c.before.before.before.before.before.before.before.args.at c.before.before.before.before.before.before.before.requires.1 (ap allowed_as (sym c.before.coded.given.1) ∙ c.before.before.before.entry-kind.ensures)))
+    rw c.key_at-field.ensures.0 (sym (entry_here c.args.key_size c.args.b.now c.args.at c.requires.1 (ap allowed_as (sym c.in-Kind.is) ∙ c.entry_kind-coded.ensures)))
 
-returns-2 : tie.Need-returns-2
+returns-2 : tie.Need-returns-in-None
 returns-2 c =
-    sym (entry-none c.before.before.before.before.before.before.args.key-size c.before.before.before.before.before.before.args.b.now c.before.before.before.before.before.before.args.at (ap allowed_as (sym c.enum_told.given.1) ∙ c.before.before.entry-kind.ensures))
+    sym (entry-none c.args.key_size c.args.b.now c.args.at (ap allowed_as (sym c.in-None.is) ∙ c.entry_kind-coded.ensures))
 
-pub declared-at-spec : {M : Type 1} → statement M
-declared-at-spec =
+pub declared_at_spec : {M : Type 1} → statement M
+declared_at_spec =
     tie.close
     (tie.spec
     (λ c κs. search rules)

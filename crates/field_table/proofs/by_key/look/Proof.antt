@@ -10,33 +10,33 @@ use borrow.Author.Rules.{rules}
 use Rattle.field_table.proofs.by_key.look.Statement.{statement}
 use Rattle.field_table.proofs.by_key.look.Tie as tie
 
-find-requires : tie.Need-find-requires
+find-requires : tie.Need-find-found-requires
 find-requires c κs =
-    let a = c.before.args in (c.before.requires.0, ascending a.key-size a.n a.b.now c.before.requires.1.0)
+    let a = c.args in (c.requires.0, ascending a.key_size a.n a.b.now c.requires.1.0)
 
-mul-decode : tie.Need-overflow-mul-decode
+mul-decode : tie.Need-overflow_mul-i
 mul-decode c =
-    let a = c.before.before.before.before.before.args in omega (arith, at-inside a.key-size a.n a.b.now a.key c.before.found.given.0.0 (ascending a.key-size a.n a.b.now c.before.before.before.before.before.requires.1.0) c.before.before.before.before.before.requires.0 (sym c.before.found.given.1 ∙ c.before.before.before.find.ensures))
+    let a = c.args in omega (arith, at-inside a.key_size a.n a.b.now a.key c.in-At.i (ascending a.key_size a.n a.b.now c.requires.1.0) c.requires.0 (sym c.in-At.is ∙ c.find-found.ensures))
 
-add-decode-2 : tie.Need-overflow-add-decode-2
+add-decode-2 : tie.Need-overflow_add-i
 add-decode-2 c =
-    let a = c.before.before.before.before.before.args in omega (arith, at-inside a.key-size a.n a.b.now a.key c.before.found.given.0.0 (ascending a.key-size a.n a.b.now c.before.before.before.before.before.requires.1.0) c.before.before.before.before.before.requires.0 (sym c.before.found.given.1 ∙ c.before.before.before.find.ensures))
+    let a = c.args in omega (arith, at-inside a.key_size a.n a.b.now a.key c.in-At.i (ascending a.key_size a.n a.b.now c.requires.1.0) c.requires.0 (sym c.in-At.is ∙ c.find-found.ensures))
 
-add-decode-3 : tie.Need-overflow-add-decode-3
+add-decode-3 : tie.Need-overflow_add-i-in-At
 add-decode-3 c =
-    let a = c.before.before.before.before.before.args in omega (arith, at-inside a.key-size a.n a.b.now a.key c.before.found.given.0.0 (ascending a.key-size a.n a.b.now c.before.before.before.before.before.requires.1.0) c.before.before.before.before.before.requires.0 (sym c.before.found.given.1 ∙ c.before.before.before.find.ensures))
+    let a = c.args in omega (arith, at-inside a.key_size a.n a.b.now a.key c.in-At.i (ascending a.key_size a.n a.b.now c.requires.1.0) c.requires.0 (sym c.in-At.is ∙ c.find-found.ensures))
 
-shared-slice-read-decode : tie.Need-shared-slice-read-decode
-shared-slice-read-decode c =
-    let a = c.before.before.before.before.before.before.args in omega (arith, at-inside a.key-size a.n a.b.now a.key c.before.before.found.given.0.0 (ascending a.key-size a.n a.b.now c.before.before.before.before.before.before.requires.1.0) c.before.before.before.before.before.before.requires.0 (sym c.before.before.found.given.1 ∙ c.before.before.before.before.find.ensures))
+shared_slice_read-decode : tie.Need-bounds-b-i
+shared_slice_read-decode c =
+    let a = c.args in omega (arith, at-inside a.key_size a.n a.b.now a.key c.in-At.i (ascending a.key_size a.n a.b.now c.requires.1.0) c.requires.0 (sym c.in-At.is ∙ c.find-found.ensures))
 
-returns : tie.Need-returns
+returns : tie.Need-returns-in-At
 returns c =
-    let a = c.before.before.before.before.before.before.before.args in (rw (to_z-of_z c.before.before.before.before.before.before.before.ranges.number) at c.decode.ensures) ∙ ap in_bits (sym (looks-decode a.key-size a.n a.b.now c.before.before.before.before.before.before.before.requires.1.0 a.key c.before.before.before.found.given.0.0 (kind_of a.game) a.number (sym c.before.before.before.found.given.1 ∙ c.before.before.before.before.before.find.ensures)))
+    let a = c.args in (rw (to_z-of_z c.ranges.number) at c.decode.ensures) ∙ ap in_bits (sym (looks-decode a.key_size a.n a.b.now c.requires.1.0 a.key c.in-At.i (kind_of a.game) a.number (sym c.in-At.is ∙ c.find-found.ensures)))
 
-returns-2 : tie.Need-returns-2
+returns-2 : tie.Need-returns-in-Absent
 returns-2 c =
-    let a = c.before.before.before.before.before.args in (rw (to_z-of_z c.before.before.before.before.before.ranges.number) at c.guess.ensures) ∙ ap in_bits (sym (looks-guess a.key-size a.n a.b.now c.before.before.before.before.before.requires.1.0 a.key _ (kind_of a.game) a.number (sym c.before.enum_told.given.1 ∙ c.before.before.before.find.ensures)))
+    let a = c.args in (rw (to_z-of_z c.ranges.number) at c.guess.ensures) ∙ ap in_bits (sym (looks-guess a.key_size a.n a.b.now c.requires.1.0 a.key _ (kind_of a.game) a.number (sym c.in-Absent.is ∙ c.find-found.ensures)))
 
 pub look_spec : {M : Type 1} → statement M
 look_spec =
@@ -48,7 +48,7 @@ look_spec =
     mul-decode
     add-decode-2
     add-decode-3
-    shared-slice-read-decode
+    shared_slice_read-decode
     (λ c κs. search rules)
     (λ c. search rules)
     (λ c κs. search rules)

@@ -6,11 +6,11 @@ use borrow.Author.Rules.{rules}
 use Rattle.field_table.proofs.sized.declares.Statement.{statement}
 use Rattle.field_table.proofs.sized.declares.Tie as tie
 
-returns : tie.Need-returns
-returns c = ap given (ap allowed_as (sym c.enum_told.given.1) ∙ c.before.before.entry-kind.ensures)
+returns : tie.Need-returns-in-Kind
+returns c = ap given (ap allowed_as (sym c.in-Kind.is) ∙ c.entry_kind-coded.ensures)
 
-returns-2 : tie.Need-returns-2
-returns-2 c = ap given (ap allowed_as (sym c.enum-told2.given.1) ∙ c.before.before.entry-kind.ensures)
+returns-2 : tie.Need-returns-in-None
+returns-2 c = ap given (ap allowed_as (sym c.in-None.is) ∙ c.entry_kind-coded.ensures)
 
-pub declares-spec : {M : Type 1} → statement M
-declares-spec = tie.close (tie.spec (λ c κs. search rules) (λ c. search rules) (λ c. search rules) returns returns-2)
+pub declares_spec : {M : Type 1} → statement M
+declares_spec = tie.close (tie.spec (λ c κs. search rules) (λ c. search rules) (λ c. search rules) returns returns-2)

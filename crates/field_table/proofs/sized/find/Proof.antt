@@ -7,32 +7,32 @@ use borrow.Author.Rules.{rules}
 use Rattle.field_table.proofs.sized.find.Statement.{statement}
 use Rattle.field_table.proofs.sized.find.Tie as tie
 
-returns : tie.Need-returns
+returns : tie.Need-returns-then-n-i
 returns c =
-    let a = c.before.before.before.args in find_past a.key-size a.n a.b.now a.key c.before.before.before.requires.1 c.before.place_of.ensures c.if1.true
+    let a = c.args in find_past a.key_size a.n a.b.now a.key c.requires.1 c.place_of-i.ensures c.if-n-i.true
 
-add-key-at : tie.Need-overflow-add-key-at
-add-key-at c = omega (arith, c.before.before.before.requires.0)
+add-key_at : tie.Need-overflow_add-key_size
+add-key_at c = omega (arith, c.requires.0)
 
-mul-key-at : tie.Need-overflow-mul-key-at
-mul-key-at c =
-    omega (arith, inside c.before.before.before.requires.0 c.before.place_of.result c.if1.false)
+mul-key_at : tie.Need-overflow_mul-i
+mul-key_at c =
+    omega (arith, inside c.requires.0 c.place_of-i.result c.if-n-i.false)
 
-add-key-at-2 : tie.Need-overflow-add-key-at-2
-add-key-at-2 c =
-    omega (arith, inside c.before.before.before.requires.0 c.before.place_of.result c.if1.false)
+add-key_at-2 : tie.Need-overflow_add-i
+add-key_at-2 c =
+    omega (arith, inside c.requires.0 c.place_of-i.result c.if-n-i.false)
 
-key-at-requires : tie.Need-key-at-requires
-key-at-requires c κs =
-    omega (arith, inside c.before.before.before.requires.0 c.before.place_of.result c.if1.false, c.before.before.before.requires.0)
+key_at-requires : tie.Need-key_at-requires
+key_at-requires c κs =
+    omega (arith, inside c.requires.0 c.place_of-i.result c.if-n-i.false, c.requires.0)
 
-returns-2 : tie.Need-returns-2
+returns-2 : tie.Need-returns-then-key_at-key
 returns-2 c =
-    let a = c.before.before.before.before.before.args in find_at a.key-size a.n a.b.now a.key c.before.before.before.before.before.requires.1 c.before.before.before.place_of.ensures c.before.before.if1.false (sym c.before.key-at.ensures.0 ∙ c.if2.true)
+    let a = c.args in find_at a.key_size a.n a.b.now a.key c.requires.1 c.place_of-i.ensures c.if-n-i.false (sym c.key_at.ensures.0 ∙ c.if-key_at-key.true)
 
-returns-3 : tie.Need-returns-3
+returns-3 : tie.Need-returns
 returns-3 c =
-    let a = c.before.before.before.before.before.args in find-not a.key-size a.n a.b.now a.key c.before.before.before.before.before.requires.1 c.before.before.before.place_of.ensures c.before.before.if1.false (λ e. c.if2.false (c.before.key-at.ensures.0 ∙ e))
+    let a = c.args in find-not a.key_size a.n a.b.now a.key c.requires.1 c.place_of-i.ensures c.if-n-i.false (λ e. c.if-key_at-key.false (c.key_at.ensures.0 ∙ e))
 
 pub find_spec : {M : Type 1} → statement M
 find_spec =
@@ -40,9 +40,9 @@ find_spec =
     (tie.spec
     (λ c κs. search rules)
     returns
-    add-key-at
-    mul-key-at
-    add-key-at-2
-    key-at-requires
+    add-key_at
+    mul-key_at
+    add-key_at-2
+    key_at-requires
     returns-2
     returns-3)

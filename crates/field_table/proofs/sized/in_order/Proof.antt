@@ -12,57 +12,57 @@ use Rattle.field_table.proofs.Orders.{order_at, code_here, order-on, order_below
 use Rattle.field_table.proofs.sized.in_order.Statement.{statement}
 use Rattle.field_table.proofs.sized.in_order.Tie as tie
 
-abbrev invariant-loop : tie.invariant-loop
+abbrev invariant-loop : tie.invariant-loop-i
 invariant-loop b n w last₀ i₀ last i = (i ≤ n) × (order_at w n b i last ≡ in_order w (entries_in w n b))
 
-abbrev decreases-loop : tie.decreases-loop
+abbrev decreases-loop : tie.decreases-loop-i
 decreases-loop b n w last₀ i₀ last i = n - i
 
-loop-holds : tie.Need-loop-init invariant-loop decreases-loop
+loop-holds : tie.Need-loop-i-init invariant-loop decreases-loop
 loop-holds c = (omega arith, rw (sub-zero, zero-mul))
 
-add_at : tie.Need-overflow-add-at invariant-loop decreases-loop
-add_at c = omega (arith, c.before.before.before.requires)
+add_at : tie.Need-overflow_add-at invariant-loop decreases-loop
+add_at c = omega (arith, c.requires)
 
-mul_at : tie.Need-overflow-mul-at invariant-loop decreases-loop
-mul_at c = omega (arith, inside c.before.before.before.requires c.before.loop.i c.loop-test.true)
+mul_at : tie.Need-overflow_mul-at invariant-loop decreases-loop
+mul_at c = omega (arith, inside c.requires c.loop-i.i c.loop-i-test.true)
 
-add-at-2 : tie.Need-overflow-add-at-2 invariant-loop decreases-loop
-add-at-2 c = omega (arith, inside c.before.before.before.requires c.before.loop.i c.loop-test.true)
+add-at-2 : tie.Need-overflow_add-at-in-loop-i invariant-loop decreases-loop
+add-at-2 c = omega (arith, inside c.requires c.loop-i.i c.loop-i-test.true)
 
-key-at-requires : tie.Need-key-at-requires invariant-loop decreases-loop
-key-at-requires c κs =
-    omega (arith, inside c.before.before.before.requires c.before.loop.i c.loop-test.true, c.before.before.before.requires)
+key_at-requires : tie.Need-key_at-key-requires invariant-loop decreases-loop
+key_at-requires c κs =
+    omega (arith, inside c.requires c.loop-i.i c.loop-i-test.true, c.requires)
 
-returns : tie.Need-returns invariant-loop decreases-loop
+returns : tie.Need-returns-then-key-last invariant-loop decreases-loop
 returns c =
-    let a = c.before.before.before.before.before.args in let l = c.before.before.before.loop in sym (order_below a.key-size a.n a.b.now l.i l.last c.before.before.loop-test.true (omega (arith, c.before.key-at.ensures.0, c.if1.true))) ∙ l.invariant.1
+    let a = c.args in let l = c.loop-i in sym (order_below a.key_size a.n a.b.now l.i l.last c.loop-i-test.true (omega (arith, c.key_at-key.ensures.0, c.if-key-last.true))) ∙ l.invariant.1
 
-add-declares : tie.Need-overflow-add-declares invariant-loop decreases-loop
+add-declares : tie.Need-overflow_add-at-in-loop-i-2 invariant-loop decreases-loop
 add-declares c =
-    omega (arith, inside c.before.before.before.before.before.requires c.before.before.before.loop.i c.before.before.loop-test.true)
+    omega (arith, inside c.requires c.loop-i.i c.loop-i-test.true)
 
-shared-slice-read-declares : tie.Need-shared-slice-read-declares invariant-loop decreases-loop
-shared-slice-read-declares c =
-    omega (arith, inside c.before.before.before.before.before.before.requires c.before.before.before.before.loop.i c.before.before.before.loop-test.true)
+shared_slice_read-declares : tie.Need-bounds-b-at invariant-loop decreases-loop
+shared_slice_read-declares c =
+    omega (arith, inside c.requires c.loop-i.i c.loop-i-test.true)
 
 declares-requires : tie.Need-declares-requires invariant-loop decreases-loop
 declares-requires c κs = tt
 
-loop-again : tie.Need-loop-preserved invariant-loop decreases-loop
+loop-again : tie.Need-loop-i-preserved invariant-loop decreases-loop
 loop-again c =
-    let a = c.before.before.before.before.before.before.before.before.args in let l = c.before.before.before.before.before.before.loop in let at = head_size + l.i * (a.key-size + 1) in let e = ap (λ x. given (declared_kind x)) (code_here a.b.now at a.key-size) ∙ sym c.before.declares.ensures ∙ c.if2.true in let k = c.before.before.before.before.key-at.ensures.0 in (omega arith, rw k (sym (order-on a.key-size a.n a.b.now l.i l.last c.before.before.before.before.before.loop-test.true (omega (arith, k, c.before.before.before.if1.false)) (rw (← k) c.before.before.before.before.key-at.ensures.1) e) ∙ l.invariant.1))
+    let a = c.args in let l = c.loop-i in let at = head_size + l.i * (a.key_size + 1) in let e = ap (λ x. given (declared_kind x)) (code_here a.b.now at a.key_size) ∙ sym c.declares.ensures ∙ c.if-declares.true in let k = c.key_at-key.ensures.0 in (omega arith, rw k (sym (order-on a.key_size a.n a.b.now l.i l.last c.loop-i-test.true (omega (arith, k, c.if-key-last.false)) (rw (← k) c.key_at-key.ensures.1) e) ∙ l.invariant.1))
 
-returns-2 : tie.Need-returns-2 invariant-loop decreases-loop
+returns-2 : tie.Need-returns-else-declares invariant-loop decreases-loop
 returns-2 c =
-    let a = c.before.before.before.before.before.before.before.before.args in let l = c.before.before.before.before.before.before.loop in let at = head_size + l.i * (a.key-size + 1) in let e = ap (λ x. given (declared_kind x)) (code_here a.b.now at a.key-size) ∙ sym c.before.declares.ensures ∙ c.if2.false in sym (order-none a.key-size a.n a.b.now l.i l.last c.before.before.before.before.before.loop-test.true e) ∙ l.invariant.1
+    let a = c.args in let l = c.loop-i in let at = head_size + l.i * (a.key_size + 1) in let e = ap (λ x. given (declared_kind x)) (code_here a.b.now at a.key_size) ∙ sym c.declares.ensures ∙ c.if-declares.false in sym (order-none a.key_size a.n a.b.now l.i l.last c.loop-i-test.true e) ∙ l.invariant.1
 
-returns-3 : tie.Need-returns-3 invariant-loop decreases-loop
+returns-3 : tie.Need-returns invariant-loop decreases-loop
 returns-3 c =
-    let a = c.before.before.before.args in let l = c.before.loop in sym (order-ends a.key-size a.n a.b.now l.i l.last c.loop-test.false) ∙ l.invariant.1
+    let a = c.args in let l = c.loop-i in sym (order-ends a.key_size a.n a.b.now l.i l.last c.loop-i-test.false) ∙ l.invariant.1
 
-pub in-order-spec : {M : Type 1} → statement M
-in-order-spec =
+pub in_order_spec : {M : Type 1} → statement M
+in_order_spec =
     tie.close
     (tie.spec
     invariant-loop
@@ -71,10 +71,10 @@ in-order-spec =
     add_at
     mul_at
     add-at-2
-    key-at-requires
+    key_at-requires
     returns
     add-declares
-    shared-slice-read-declares
+    shared_slice_read-declares
     declares-requires
     (λ c. omega arith)
     (λ c. omega arith)

@@ -13,41 +13,41 @@ use Rattle.field_table.proofs.Keys.{inside}
 use Rattle.field_table.proofs.sized.place_of.Statement.{statement}
 use Rattle.field_table.proofs.sized.place_of.Tie as tie
 
-abbrev invariant-loop : tie.invariant-loop
+abbrev invariant-loop : tie.invariant-loop-low
 invariant-loop b n w q low₀ high₀ low high = (low ≤ place (key_in w) q (entries_in w n b)) × (place (key_in w) q (entries_in w n b) ≤ high) × (high ≤ n)
 
-abbrev decreases-loop : tie.decreases-loop
+abbrev decreases-loop : tie.decreases-loop-low
 decreases-loop b n w q low₀ high₀ low high = high - low
 
-loop-holds : tie.Need-loop-init invariant-loop decreases-loop
+loop-holds : tie.Need-loop-low-init invariant-loop decreases-loop
 loop-holds c =
-    let a = c.before.args in (omega arith, omega (arith, place-within (key_in a.key-size) a.key (entries_in a.key-size a.n a.b.now), piece-count a.n (a.key-size + 1) (drop head_size a.b.now)), omega arith)
+    let a = c.args in (omega arith, omega (arith, place-within (key_in a.key_size) a.key (entries_in a.key_size a.n a.b.now), piece-count a.n (a.key_size + 1) (drop head_size a.b.now)), omega arith)
 
-add-key-at : tie.Need-overflow-add-key-at invariant-loop decreases-loop
-add-key-at c = omega (arith, c.before.before.before.requires.0)
+add-key_at : tie.Need-overflow_add-key_size invariant-loop decreases-loop
+add-key_at c = omega (arith, c.requires.0)
 
-mul-key-at : tie.Need-overflow-mul-key-at invariant-loop decreases-loop
-mul-key-at c =
-    let l = c.before.loop in omega (arith, inside c.before.before.before.requires.0 (l.low + (l.high - l.low) / 2) (omega arith))
+mul-key_at : tie.Need-overflow_mul-middle invariant-loop decreases-loop
+mul-key_at c =
+    let l = c.loop-low in omega (arith, inside c.requires.0 (l.low + (l.high - l.low) / 2) (omega arith))
 
-add-key-at-2 : tie.Need-overflow-add-key-at-2 invariant-loop decreases-loop
-add-key-at-2 c =
-    let l = c.before.loop in omega (arith, inside c.before.before.before.requires.0 (l.low + (l.high - l.low) / 2) (omega arith))
+add-key_at-2 : tie.Need-overflow_add-middle-in-loop-low invariant-loop decreases-loop
+add-key_at-2 c =
+    let l = c.loop-low in omega (arith, inside c.requires.0 (l.low + (l.high - l.low) / 2) (omega arith))
 
-key-at-requires : tie.Need-key-at-requires invariant-loop decreases-loop
-key-at-requires c κs =
-    let l = c.before.loop in omega (arith, inside c.before.before.before.requires.0 (l.low + (l.high - l.low) / 2) (omega arith), c.before.before.before.requires.0)
+key_at-requires : tie.Need-key_at-requires invariant-loop decreases-loop
+key_at-requires c κs =
+    let l = c.loop-low in omega (arith, inside c.requires.0 (l.low + (l.high - l.low) / 2) (omega arith), c.requires.0)
 
-loop-again : tie.Need-loop-preserved invariant-loop decreases-loop
+loop-again : tie.Need-loop-low-preserved-then-key_at-key invariant-loop decreases-loop
 loop-again c =
-    let a = c.before.before.before.before.before.args in let l = c.before.before.before.loop in (halve-after (key_in a.key-size) head_size (a.key-size + 1) a.n a.b.now (l.low + (l.high - l.low) / 2) a.key c.before.before.before.before.before.requires.1 (omega arith) (omega (arith, c.before.key-at.ensures.0, c.if1.true)), omega arith, omega arith)
+    let a = c.args in let l = c.loop-low in (halve-after (key_in a.key_size) head_size (a.key_size + 1) a.n a.b.now (l.low + (l.high - l.low) / 2) a.key c.requires.1 (omega arith) (omega (arith, c.key_at.ensures.0, c.if-key_at-key.true)), omega arith, omega arith)
 
-loop-again-2 : tie.Need-loop-preserved-2 invariant-loop decreases-loop
+loop-again-2 : tie.Need-loop-low-preserved invariant-loop decreases-loop
 loop-again-2 c =
-    let a = c.before.before.before.before.before.args in let l = c.before.before.before.loop in (omega arith, halve-before (key_in a.key-size) head_size (a.key-size + 1) a.n a.b.now (l.low + (l.high - l.low) / 2) a.key c.before.before.before.before.before.requires.1 (omega arith) (omega (arith, c.before.key-at.ensures.0, c.if1.false)), omega arith)
+    let a = c.args in let l = c.loop-low in (omega arith, halve-before (key_in a.key_size) head_size (a.key_size + 1) a.n a.b.now (l.low + (l.high - l.low) / 2) a.key c.requires.1 (omega arith) (omega (arith, c.key_at.ensures.0, c.if-key_at-key.false)), omega arith)
 
-pub place-of-spec : {M : Type 1} → statement M
-place-of-spec =
+pub place_of_spec : {M : Type 1} → statement M
+place_of_spec =
     tie.close
     (tie.spec
     invariant-loop
@@ -55,10 +55,10 @@ place-of-spec =
     loop-holds
     (λ c. omega arith)
     (λ c. omega arith)
-    add-key-at
-    mul-key-at
-    add-key-at-2
-    key-at-requires
+    add-key_at
+    mul-key_at
+    add-key_at-2
+    key_at-requires
     (λ c. omega arith)
     (λ c. omega arith)
     loop-again

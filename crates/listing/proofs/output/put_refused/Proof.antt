@@ -13,15 +13,15 @@ use Rattle.listing.proofs.output.put_refused.Tie as tie
 
 slice-write-out-2 : tie.Need-slice-write-out-2
 slice-write-out-2 c =
-    let w = wrote-byte-tail c.before.before.before.before.before.before.args.out.now (bytes " refused ") c.before.before.before.before.before.before.args.front 10 refl (omega arith) c.before.before.copy.ensures.1 in let e = wrote-length w in omega arith
+    let w = wrote-byte-tail c.before.before.before.before.before.before.args.out.now (bytes " refused ") c.before.before.before.before.before.before.args.front 10 refl (omega arith) c.before.before.copy.ensures in let e = wrote-length w in omega arith
 
 slice-write-out-3 : tie.Need-slice-write-out-3
 slice-write-out-3 c =
-    let w = wrote-byte-tail c.before.before.before.before.before.before.args.out.now (bytes " refused ") c.before.before.before.before.before.before.args.front 10 refl (omega arith) c.before.before.copy.ensures.1 in let e = wrote-length (wrote-byte (digit c.before.before.before.before.before.before.args.n) w (omega arith)) in omega arith
+    let w = wrote-byte-tail c.before.before.before.before.before.before.args.out.now (bytes " refused ") c.before.before.before.before.before.before.args.front 10 refl (omega arith) c.before.before.copy.ensures in let e = wrote-length (wrote-byte (digit c.before.before.before.before.before.before.args.n) w (omega arith)) in omega arith
 
 returns : tie.Need-returns
 returns c =
-    let w = wrote-byte-tail c.before.before.before.before.before.before.args.out.now (bytes " refused ") c.before.before.before.before.before.before.args.front 10 refl (omega arith) c.before.before.copy.ensures.1 in
+    let w = wrote-byte-tail c.before.before.before.before.before.before.args.out.now (bytes " refused ") c.before.before.before.before.before.before.args.front 10 refl (omega arith) c.before.before.copy.ensures in
     let all = wrote-byte 10 (wrote-byte (digit c.before.before.before.before.before.before.args.n) w (omega arith)) (omega arith) in
     ((rw (one-digit _ c.before.before.before.before.before.before.requires.0), lit≤ tt), wrote-placed all ∙ placed-as c.before.before.before.before.before.before.args.out.now (refusal-line _ _ c.before.before.before.before.before.before.requires.0))
 

@@ -19,7 +19,7 @@ returns-2 c =
 
 returns-3 : tie.Need-returns-3
 returns-3 c =
-    let w = ends-behind c.before.before.before.before.before.before.before.before.before.before.before.before.args.text.now c.before.before.before.before.before.before.before.before.before.before.before.before.args.free.now c.before.before.before.before.before.before.copy.result c.before.before.before.before.before.before.before.before.before.before.before.before.args.ends c.before.before.before.before.before.before.copy.ensures.0 (omega (arith, c.before.before.before.before.before.before.copy.ensures.0)) (rw c.before.before.before.before.before.before.copy.ensures.0 c.before.before.before.before.before.before.copy.ensures.1) c.before.before.fill.ensures in let s = wrote-whole w in (s.answered, (s.holds, w.room))
+    let w = ends-behind c.before.before.before.before.before.before.before.before.before.before.before.before.args.text.now c.before.before.before.before.before.before.before.before.before.before.before.before.args.free.now c.before.before.before.before.before.before.copy.result c.before.before.before.before.before.before.before.before.before.before.before.before.args.ends c.before.before.before.before.before.before.copy.ensures.0 (omega (arith, c.before.before.before.before.before.before.copy.ensures.0)) (rw c.before.before.before.before.before.before.copy.ensures.0 c.before.before.before.before.before.before.copy.ensures) c.before.before.fill.ensures in let s = wrote-whole w in (s.answered, (s.holds, w.room))
 
 pub put_spec : {M : Type 1} → statement M
 put_spec =

@@ -10,7 +10,7 @@ returns : tie.Need-returns
 returns c =
     let a = c.before.before.before.before.before.before.before.args in
     let e = c.before.before.before.before.if1.true in
-    (sym (eq-eqb _ _ e), c.before.before.copy.ensures.1 ∙ put_whole a.buffer.now a.target.now e)
+    (sym (eq-eqb _ _ e), c.before.before.copy.ensures ∙ put_whole a.buffer.now a.target.now e)
 
 returns-2 : tie.Need-returns-2
 returns-2 c = (sym (ne_eqb _ _ c.if1.false), refl)

@@ -9,35 +9,35 @@ use Rattle.iso_reading.proofs.Laws.{own-text, not-refused}
 use Rattle.iso_reading.proofs.is_iso_of.Statement.{statement}
 use Rattle.iso_reading.proofs.is_iso_of.Tie as tie
 
-array-share-prefix-own : tie.Need-array-share-prefix-own
-array-share-prefix-own c =
-    omega (arith, rw c.before.spelled.given.1 at c.before.before.before.before.iso-8601.ensures.1.1)
+array_share_prefix-own : tie.Need-slice_bounds-own-end
+array_share_prefix-own c =
+    omega (arith, rw c.in-Length.is at c.iso_8601-spelled.ensures.1.1)
 
-slice-aggregate-same : tie.Need-slice-aggregate-same
-slice-aggregate-same c =
-    simp length-take (omega (arith, rw c.before.before.spelled.given.1 at c.before.before.before.before.before.iso-8601.ensures.1.1))
+slice_aggregate-same : tie.Need-slice_bounds-same-end
+slice_aggregate-same c =
+    simp length-take (omega (arith, rw c.in-Length.is at c.iso_8601-spelled.ensures.1.1))
 
-returns : tie.Need-returns
+returns : tie.Need-returns-in-Length
 returns c =
-    λ is. rw (own-text (kind_of c.before.before.before.before.before.before.before.before.before.args.kind) (bits_of c.before.before.before.before.before.before.before.before.before.args.date) _ c.before.before.before.before.before.before.iso-8601.new.1.1.0 c.before.before.before.before.before.before.iso-8601.result (omega arith) c.before.before.before.before.before.before.iso-8601.ensures is c.before.before.before.spelled.given.1) at c.same.ensures
+    λ is. rw (own-text (kind_of c.args.kind) (bits_of c.args.date) _ c.iso_8601-spelled.new.out c.iso_8601-spelled.result (omega arith) c.iso_8601-spelled.ensures is c.in-Length.is) at c.same.ensures
 
-returns-2 : tie.Need-returns-2
+returns-2 : tie.Need-returns-in-NotOfKind
 returns-2 c =
-    λ is. not-refused (kind_of c.before.before.before.before.before.before.args.kind) (bits_of c.before.before.before.before.before.before.args.date) _ c.before.before.before.iso-8601.new.1.1.0 c.before.before.before.iso-8601.result (omega arith) c.before.before.before.iso-8601.ensures is (ap length_of c.enum_told.given.1)
+    λ is. not-refused (kind_of c.args.kind) (bits_of c.args.date) _ c.iso_8601-spelled.new.out c.iso_8601-spelled.result (omega arith) c.iso_8601-spelled.ensures is (ap length_of c.in-NotOfKind.is)
 
-returns-3 : tie.Need-returns-3
+returns-3 : tie.Need-returns-in-Short
 returns-3 c =
-    λ is. not-refused (kind_of c.before.before.before.before.before.before.args.kind) (bits_of c.before.before.before.before.before.before.args.date) _ c.before.before.before.iso-8601.new.1.1.0 c.before.before.before.iso-8601.result (omega arith) c.before.before.before.iso-8601.ensures is (ap length_of c.enum-told2.given.1)
+    λ is. not-refused (kind_of c.args.kind) (bits_of c.args.date) _ c.iso_8601-spelled.new.out c.iso_8601-spelled.result (omega arith) c.iso_8601-spelled.ensures is (ap length_of c.in-Short.is)
 
-pub is-iso-of-spec : {M : Type 1} → statement M
-is-iso-of-spec =
+pub is_iso_of_spec : {M : Type 1} → statement M
+is_iso_of_spec =
     tie.close
     (tie.spec
     (λ c. search rules)
     (λ c κs. search rules)
     (λ c. search rules)
-    array-share-prefix-own
-    slice-aggregate-same
+    array_share_prefix-own
+    slice_aggregate-same
     (λ c κs. search rules)
     (λ c. search rules)
     (λ c. search rules)

@@ -10,36 +10,36 @@ use Rattle.iso_reading.proofs.Laws.{no-hour, an-hour}
 use Rattle.iso_reading.proofs.iso_part.Statement.{statement}
 use Rattle.iso_reading.proofs.iso_part.Tie as tie
 
-returns : tie.Need-returns
+returns : tie.Need-returns-in_default
 unfolding iso_part
-returns c = λ y. rw (← c.before.before.next-number.ensures, c.enum_told.given.1)
+returns c = λ y. rw (← c.next_number.ensures, c.in_default.is)
 
-returns-2 : tie.Need-returns-2
+returns-2 : tie.Need-returns-in_default-next_number
 unfolding iso_part
 returns-2 c =
-    λ y. rw (← c.before.before.before.before.before.before.next-number.ensures, c.before.before.before.before.month.given.1, ← c.before.before.next-number2.ensures, c.enum-told2.given.1)
+    λ y. rw (← c.next_number.ensures, c.in-Value.is, ← c.next_number-2.ensures, c.in_default-next_number.is)
 
-returns-3 : tie.Need-returns-3
+returns-3 : tie.Need-returns-then-s-j
 unfolding iso_part
 returns-3 c =
-    λ y. rw (← c.before.before.before.before.before.before.before.before.next-number.ensures, c.before.before.before.before.before.before.month.given.1, ← c.before.before.before.before.next-number2.ensures, c.before.before.day.given.1, no-hour (kind_of c.before.before.before.before.before.before.before.before.before.before.args.kind) _ _ c.if1.true)
+    λ y. rw (← c.next_number.ensures, c.in-Value.is, ← c.next_number-2.ensures, c.in-Value-next_number.is, no-hour (kind_of c.args.kind) _ _ c.if-s-j.true)
 
-returns-4 : tie.Need-returns-4
+returns-4 : tie.Need-returns-in_default-next_number-2
 unfolding iso_part
 returns-4 c =
-    λ y. rw (← c.before.before.before.before.before.before.before.before.before.before.before.next-number.ensures, c.before.before.before.before.before.before.before.before.before.month.given.1, ← c.before.before.before.before.before.before.before.next-number2.ensures, c.before.before.before.before.before.day.given.1, an-hour (kind_of c.before.before.before.before.before.before.before.before.before.before.before.before.before.args.kind) _ _ c.before.before.before.if1.false, ← c.before.before.next-number3.ensures, c.enum-told3.given.1)
+    λ y. rw (← c.next_number.ensures, c.in-Value.is, ← c.next_number-2.ensures, c.in-Value-next_number.is, an-hour (kind_of c.args.kind) _ _ c.if-s-j.false, ← c.next_number-3.ensures, c.in_default-next_number-2.is)
 
-named-hour-requires : tie.Need-named-hour-requires
-named-hour-requires c κs =
-    outcome-value (outcome-digits {R = λ n. n ≡ not_text} refl _) (sym c.before.before.before.next-number3.ensures ∙ ap (taken_as c.before.before.before.before.before.before.before.before.before.before.before.before.before.before.args.s.now) c.before.hour.given.1)
+named_hour-requires : tie.Need-named_hour-requires
+named_hour-requires c κs =
+    outcome-value (outcome-digits {R = λ n. n ≡ not_text} refl _) (sym c.next_number-3.ensures ∙ ap (taken_as c.args.s.now) c.in-Value-next_number-2.is)
 
-returns-5 : tie.Need-returns-5
+returns-5 : tie.Need-returns
 unfolding iso_part
 returns-5 c =
-    λ y. rw (← c.before.before.before.before.before.before.before.before.before.before.before.before.before.next-number.ensures, c.before.before.before.before.before.before.before.before.before.before.before.month.given.1, ← c.before.before.before.before.before.before.before.before.before.next-number2.ensures, c.before.before.before.before.before.before.before.day.given.1, an-hour (kind_of c.before.before.before.before.before.before.before.before.before.before.before.before.before.before.before.args.kind) _ _ c.before.before.before.before.before.if1.false, ← c.before.before.before.before.next-number3.ensures, c.before.before.hour.given.1, c.named-hour.ensures)
+    λ y. rw (← c.next_number.ensures, c.in-Value.is, ← c.next_number-2.ensures, c.in-Value-next_number.is, an-hour (kind_of c.args.kind) _ _ c.if-s-j.false, ← c.next_number-3.ensures, c.in-Value-next_number-2.is, c.named_hour.ensures)
 
-pub iso-part-spec : {M : Type 1} → statement M
-iso-part-spec =
+pub iso_part_spec : {M : Type 1} → statement M
+iso_part_spec =
     tie.close
     (tie.spec
     (λ c κs. search rules)
@@ -55,5 +55,5 @@ iso-part-spec =
     (λ c. search rules)
     (λ c. search rules)
     returns-4
-    named-hour-requires
+    named_hour-requires
     returns-5)

@@ -4,20 +4,20 @@ use native.Mathlib.Omega.{arith}
 use Rattle.iso_reading.proofs.named_hour.Statement.{statement}
 use Rattle.iso_reading.proofs.named_hour.Tie as tie
 
-returns : tie.Need-returns
-returns c = rw c.before.enum-told5.given.1 (omega arith)
+returns : tie.Need-returns-then-hour-lt8
+returns c = rw c.in-Eu5.is (omega arith)
 
-returns-2 : tie.Need-returns-2
-returns-2 c = rw c.enum_told.given.1
+returns-2 : tie.Need-returns-in-Raw
+returns-2 c = rw c.in-Raw.is
 
-returns-4 : tie.Need-returns-4
-returns-4 c = rw c.enum-told3.given.1
+returns-4 : tie.Need-returns-in-Hour
+returns-4 c = rw c.in-Hour.is
 
-returns-6 : tie.Need-returns-6
-returns-6 c = rw c.before.enum-told5.given.1 (omega arith)
+returns-6 : tie.Need-returns-else-hour-lt8
+returns-6 c = rw c.in-Eu5.is (omega arith)
 
-pub named-hour-spec : {M : Type 1} → statement M
-named-hour-spec =
+pub named_hour_spec : {M : Type 1} → statement M
+named_hour_spec =
     tie.close
     (tie.spec
     (λ c. search rules)

@@ -5,12 +5,12 @@ use Rattle.rules.proofs.Shared.Rests.{here, past}
 use Rattle.iso_reading.proofs.next_number.Statement.{statement}
 use Rattle.iso_reading.proofs.next_number.Tie as tie
 
-returns : tie.Need-returns
+returns : tie.Need-returns-then-s-at
 unfolding one_or_two
-returns c = rw (past _ _ c.if1.true)
+returns c = rw (past _ _ c.if-s-at.true)
 
-returns-2 : tie.Need-returns-2
-returns-2 c = rw (c.one-or-two.ensures, here _ _ c.before.if1.false)
+returns-2 : tie.Need-returns
+returns-2 c = rw (c.one_or_two.ensures, here _ _ c.if-s-at.false)
 
-pub next-number-spec : {M : Type 1} → statement M
-next-number-spec = tie.close (tie.spec returns (λ c. search rules) (λ c κs. search rules) returns-2)
+pub next_number_spec : {M : Type 1} → statement M
+next_number_spec = tie.close (tie.spec returns (λ c. search rules) (λ c κs. search rules) returns-2)

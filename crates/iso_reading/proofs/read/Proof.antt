@@ -5,25 +5,25 @@ use Rattle.iso_reading.proofs.Steps.{lead-refused, parts-refused, made_none, mad
 use Rattle.iso_reading.proofs.read.Statement.{statement}
 use Rattle.iso_reading.proofs.read.Tie as tie
 
-returns : tie.Need-returns
+returns : tie.Need-returns-in_default
 returns c =
-    lead-refused (kind_of c.before.before.before.before.args.kind) _ c.before.before.to-i64-t.ensures.0 c.enum_told.given.1
+    lead-refused (kind_of c.args.kind) _ c.to_i64_t.ensures.0 c.in_default.is
 
-returns-2 : tie.Need-returns-2
+returns-2 : tie.Need-returns-in_default-iso_part
 returns-2 c =
-    parts-refused (kind_of c.before.before.before.before.before.before.before.before.args.kind) _ c.before.before.before.before.before.before.to-i64-t.ensures.0 c.before.before.before.before.value.given.1 c.before.before.iso-part.result c.before.before.iso-part.ensures c.enum-told2.given.1
+    parts-refused (kind_of c.args.kind) _ c.to_i64_t.ensures.0 c.in-Number.is c.iso_part.result c.iso_part.ensures c.in_default-iso_part.is
 
-returns-3 : tie.Need-returns-3
+returns-3 : tie.Need-returns-in_default-settle_year
 returns-3 c =
-    made_none (kind_of c.before.before.before.before.before.before.before.before.before.before.before.before.args.kind) _ c.before.before.before.before.before.before.before.before.before.before.to-i64-t.ensures.0 c.before.before.before.before.before.before.before.before.value.given.1 c.before.before.before.before.before.before.iso-part.result c.before.before.before.before.before.before.iso-part.ensures c.before.before.before.before.month.given.1 c.before.before.before.before.before.before.before.known-told.given.0.1 c.before.before.settle-year.result c.before.before.settle-year.ensures c.enum-told3.given.1
+    made_none (kind_of c.args.kind) _ c.to_i64_t.ensures.0 c.in-Number.is c.iso_part.result c.iso_part.ensures c.in-Fields.is c.in-Number.known_told-1-own.given.0.1 c.settle_year.result c.settle_year.ensures c.in_default-settle_year.is
 
-returns-4 : tie.Need-returns-4
+returns-4 : tie.Need-returns-then-is_iso_of
 returns-4 c =
-    rw c.if1.true at (made_some (kind_of c.before.before.before.before.before.before.before.before.before.before.before.before.before.before.before.args.kind) _ c.before.before.before.before.before.before.before.before.before.before.before.before.before.to-i64-t.ensures.0 c.before.before.before.before.before.before.before.before.before.before.before.value.given.1 c.before.before.before.before.before.before.before.before.before.iso-part.result c.before.before.before.before.before.before.before.before.before.iso-part.ensures c.before.before.before.before.before.before.before.month.given.1 c.before.before.before.before.before.before.before.before.before.before.known-told.given.0.1 c.before.before.before.before.before.settle-year.result c.before.before.before.before.before.settle-year.ensures c.before.is-iso-of.result c.before.before.before.date.given.1 c.before.is-iso-of.ensures)
+    rw c.if-is_iso_of.true at (made_some (kind_of c.args.kind) _ c.to_i64_t.ensures.0 c.in-Number.is c.iso_part.result c.iso_part.ensures c.in-Fields.is c.in-Number.known_told-1-own.given.0.1 c.settle_year.result c.settle_year.ensures c.is_iso_of.result c.in-Date.is c.is_iso_of.ensures)
 
-returns-5 : tie.Need-returns-5
+returns-5 : tie.Need-returns
 returns-5 c =
-    rw c.if1.false at (made_some (kind_of c.before.before.before.before.before.before.before.before.before.before.before.before.before.before.before.args.kind) _ c.before.before.before.before.before.before.before.before.before.before.before.before.before.to-i64-t.ensures.0 c.before.before.before.before.before.before.before.before.before.before.before.value.given.1 c.before.before.before.before.before.before.before.before.before.iso-part.result c.before.before.before.before.before.before.before.before.before.iso-part.ensures c.before.before.before.before.before.before.before.month.given.1 c.before.before.before.before.before.before.before.before.before.before.known-told.given.0.1 c.before.before.before.before.before.settle-year.result c.before.before.before.before.before.settle-year.ensures c.before.is-iso-of.result c.before.before.before.date.given.1 c.before.is-iso-of.ensures)
+    rw c.if-is_iso_of.false at (made_some (kind_of c.args.kind) _ c.to_i64_t.ensures.0 c.in-Number.is c.iso_part.result c.iso_part.ensures c.in-Fields.is c.in-Number.known_told-1-own.given.0.1 c.settle_year.result c.settle_year.ensures c.is_iso_of.result c.in-Date.is c.is_iso_of.ensures)
 
 pub read_spec : {M : Type 1} → statement M
 read_spec =

@@ -57,7 +57,7 @@ put_length-requires c κs =
     let start = c in
     let n = room.in-Records.n in
     let less : n + 1 ≤ start.args.most = omega (arith, room.if-most-n.false) in
-    omega (arith, mul-le-mul_right (length start.args.piece.now) less, c.put.auto.0, start.requires, tells c.before.before.before.before.before.before.before.before.before)
+    omega (arith, mul-le-mul_right (length start.args.piece.now) less, c.put.auto.b, start.requires, tells c.before.before.before.before.before.before.before.before.before)
 
 -- the record, then the length, each stored by a callee
 returns-3 : tie.Need-returns-then-sound_at

@@ -5,14 +5,14 @@ use borrow.Author.Rules.{rules}
 use Rattle.book_versions.proofs.any.check.Statement.{statement}
 use Rattle.book_versions.proofs.any.check.Tie as tie
 
-returns : tie.Need-returns
+returns : tie.Need-returns-then-is_second
 returns c =
-    c.check.ensures ∙ check-as-two c.before.before.before.before.args.b.now c.before.before.is-second.ensures c.before.if1.true
+    c.check.ensures ∙ check-as-two c.args.b.now c.is_second.ensures c.if-is_second.true
 
-returns-2 : tie.Need-returns-2
+returns-2 : tie.Need-returns
 returns-2 c =
-    c.check2.ensures ∙ check-as-one c.before.before.before.before.args.b.now c.before.before.is-second.ensures c.before.if1.false
+    c.check-2.ensures ∙ check-as-one c.args.b.now c.is_second.ensures c.if-is_second.false
 
-pub check-spec : {M : Type 1} → statement M
-check-spec =
+pub check_spec : {M : Type 1} → statement M
+check_spec =
     tie.close (tie.spec (λ c κs. search rules) (λ c κs. search rules) returns (λ c κs. search rules) returns-2)

@@ -8,19 +8,19 @@ use Rattle.book_versions.proofs.any.entry.Tie as tie
 
 entry-requires : tie.Need-entry-requires
 entry-requires c κs =
-    ap given (check-as-two c.before.before.before.args.b.now c.before.is-second.ensures c.if1.true) ∙ c.before.before.before.requires
+    ap given (check-as-two c.args.b.now c.is_second.ensures c.if-is_second.true) ∙ c.requires
 
-returns : tie.Need-returns
+returns : tie.Need-returns-then-is_second
 returns c =
-    c.entry.ensures ∙ entry-as-two c.before.before.before.before.args.b.now c.before.before.is-second.ensures c.before.if1.true c.before.before.before.before.args.place
+    c.entry.ensures ∙ entry-as-two c.args.b.now c.is_second.ensures c.if-is_second.true c.args.place
 
 entry-requires-2 : tie.Need-entry-requires-2
 entry-requires-2 c κs =
-    ap given (check-as-one c.before.before.before.args.b.now c.before.is-second.ensures c.if1.false) ∙ c.before.before.before.requires
+    ap given (check-as-one c.args.b.now c.is_second.ensures c.if-is_second.false) ∙ c.requires
 
-returns-2 : tie.Need-returns-2
+returns-2 : tie.Need-returns
 returns-2 c =
-    c.entry2.ensures ∙ entry-as-one c.before.before.before.before.args.b.now c.before.before.is-second.ensures c.before.if1.false c.before.before.before.before.args.place
+    c.entry-2.ensures ∙ entry-as-one c.args.b.now c.is_second.ensures c.if-is_second.false c.args.place
 
 pub entry_spec : {M : Type 1} → statement M
 entry_spec =

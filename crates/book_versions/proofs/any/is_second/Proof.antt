@@ -5,8 +5,8 @@ use borrow.Author.Rules.{rules}
 use Rattle.book_versions.proofs.any.is_second.Statement.{statement}
 use Rattle.book_versions.proofs.any.is_second.Tie as tie
 
-returns : tie.Need-returns
-returns c = no-version c.before.args.b.now (omega arith)
+returns : tie.Need-returns-then-b-lt-HEAD_SIZE
+returns c = no-version c.args.b.now (omega arith)
 
-pub is-second-spec : {M : Type 1} → statement M
-is-second-spec = tie.close (tie.spec returns (λ c. search rules) (λ c. search rules))
+pub is_second_spec : {M : Type 1} → statement M
+is_second_spec = tie.close (tie.spec returns (λ c. search rules) (λ c. search rules))

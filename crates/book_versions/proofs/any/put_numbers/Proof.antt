@@ -8,33 +8,33 @@ use borrow.Author.Rules.{rules}
 use Rattle.book_versions.proofs.any.put_numbers.Statement.{statement}
 use Rattle.book_versions.proofs.any.put_numbers.Tie as tie
 
-returns : tie.Need-returns
+returns : tie.Need-returns-in-Record
 unfolding numbers_of
 returns c =
-    (rw (c.before.before.before.before.kind-code.ensures, c.before.before.before.date-number.ensures) at c.before.before.put.ensures) ∙ ap (λ (f : Found). sets c.before.before.before.before.before.before.before.before.before.before.args.out.now c.before.before.before.before.before.before.before.before.before.before.args.at (numbers_of (found_as f))) (sym c.before.before.before.before.before.before.before.found.given.1)
+    (rw (c.kind_code.ensures, c.date_number.ensures) at c.put.ensures) ∙ ap (λ (f : Found). sets c.args.out.now c.args.at (numbers_of (found_as f))) (sym c.in-Record.is)
 
-returns-2 : tie.Need-returns-2
+returns-2 : tie.Need-returns-in-BadLength
 unfolding numbers_of
 returns-2 c =
-    c.before.before.put2.ensures ∙ ap (λ (f : Found). sets c.before.before.before.before.before.before.before.args.out.now c.before.before.before.before.before.before.before.args.at (numbers_of (found_as f))) (sym c.before.before.before.before.enum_told.given.1)
+    c.put-in-BadLength.ensures ∙ ap (λ (f : Found). sets c.args.out.now c.args.at (numbers_of (found_as f))) (sym c.in-BadLength.is)
 
-returns-3 : tie.Need-returns-3
+returns-3 : tie.Need-returns-in-BadVersion
 unfolding numbers_of
 returns-3 c =
-    c.before.before.put3.ensures ∙ ap (λ (f : Found). sets c.before.before.before.before.before.before.before.args.out.now c.before.before.before.before.before.before.before.args.at (numbers_of (found_as f))) (sym c.before.before.before.before.enum-told2.given.1)
+    c.put-in-BadVersion.ensures ∙ ap (λ (f : Found). sets c.args.out.now c.args.at (numbers_of (found_as f))) (sym c.in-BadVersion.is)
 
-returns-4 : tie.Need-returns-4
+returns-4 : tie.Need-returns-in-BadRecord
 unfolding numbers_of
 returns-4 c =
-    c.before.before.put4.ensures ∙ ap (λ (f : Found). sets c.before.before.before.before.before.before.before.args.out.now c.before.before.before.before.before.before.before.args.at (numbers_of (found_as f))) (sym c.before.before.before.before.enum-told3.given.1)
+    c.put-in-BadRecord.ensures ∙ ap (λ (f : Found). sets c.args.out.now c.args.at (numbers_of (found_as f))) (sym c.in-BadRecord.is)
 
-returns-5 : tie.Need-returns-5
+returns-5 : tie.Need-returns-in-NoRecord
 unfolding numbers_of
 returns-5 c =
-    c.before.before.put5.ensures ∙ ap (λ (f : Found). sets c.before.before.before.before.before.before.before.args.out.now c.before.before.before.before.before.before.before.args.at (numbers_of (found_as f))) (sym c.before.before.before.before.enum-told4.given.1)
+    c.put-in-NoRecord.ensures ∙ ap (λ (f : Found). sets c.args.out.now c.args.at (numbers_of (found_as f))) (sym c.in-NoRecord.is)
 
-pub put-numbers-spec : {M : Type 1} → statement M
-put-numbers-spec =
+pub put_numbers_spec : {M : Type 1} → statement M
+put_numbers_spec =
     tie.close
     (tie.spec
     (λ c. search rules)

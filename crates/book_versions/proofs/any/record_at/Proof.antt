@@ -5,15 +5,15 @@ use borrow.Author.Rules.{rules}
 use Rattle.book_versions.proofs.any.record_at.Statement.{statement}
 use Rattle.book_versions.proofs.any.record_at.Tie as tie
 
-returns : tie.Need-returns
+returns : tie.Need-returns-then-is_second
 returns c =
-    c.record-at.ensures ∙ entry-as-two c.before.before.before.before.args.b.now c.before.before.is-second.ensures c.before.if1.true c.before.before.before.before.args.place
+    c.record_at.ensures ∙ entry-as-two c.args.b.now c.is_second.ensures c.if-is_second.true c.args.place
 
-returns-2 : tie.Need-returns-2
+returns-2 : tie.Need-returns
 returns-2 c =
-    c.record-at2.ensures ∙ entry-as-one c.before.before.before.before.args.b.now c.before.before.is-second.ensures c.before.if1.false c.before.before.before.before.args.place
+    c.record_at-2.ensures ∙ entry-as-one c.args.b.now c.is_second.ensures c.if-is_second.false c.args.place
 
-pub record-at-spec : {M : Type 1} → statement M
-record-at-spec =
+pub record_at_spec : {M : Type 1} → statement M
+record_at_spec =
     tie.close
     (tie.spec (λ c κs. search rules) (λ c κs. search rules) returns (λ c κs. search rules) returns-2)

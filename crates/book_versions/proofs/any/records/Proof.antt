@@ -15,45 +15,45 @@ use borrow.Author.Rules.{rules}
 use Rattle.book_versions.proofs.any.records.Statement.{statement}
 use Rattle.book_versions.proofs.any.records.Tie as tie
 
-put-records-requires : tie.Need-put-records-requires
-put-records-requires c κs =
-    let a = c.before.before.before.before.before.before.before.before.before.args in
-    let n = c.before.before.before.before.checked.given.0.0 in
+put_records-requires : tie.Need-put_records-requires
+put_records-requires c κs =
+    let a = c.args in
+    let n = c.in-Records.n in
     let left = least_first (n - a.place) (length a.out.now / 4) in
     let room = least-second (n - a.place) (length a.out.now / 4) in
-    let count : c.before.least.result ≡ least (n - a.place) (length a.out.now / 4) = c.before.least.ensures ∙ ap (λ x. least x (length a.out.now / 4)) c.before.before.left_After.ensures in
-    (ap given (sym (ap checked_as (sym c.before.before.before.before.checked.given.1) ∙ c.before.before.before.before.before.before.check.ensures)), (omega arith, omega arith))
+    let count : c.least-count.result ≡ least (n - a.place) (length a.out.now / 4) = c.least-count.ensures ∙ ap (λ x. least x (length a.out.now / 4)) c.left_after.ensures in
+    (ap given (sym (ap checked_as (sym c.in-Records.is) ∙ c.check-checked.ensures)), (omega arith, omega arith))
 
-returns : tie.Need-returns
+returns : tie.Need-returns-in-Records
 unfolding walked_over
 returns c =
-    let a = c.before.before.before.before.before.before.before.before.before.before.before.before.args in
-    let n = c.before.before.before.before.before.before.before.checked.given.0.0 in
-    let told = walk-gives a.b.now a.place a.out.now (ap checked_as (sym c.before.before.before.before.before.before.before.checked.given.1) ∙ c.before.before.before.before.before.before.before.before.before.check.ensures) in
-    let count : c.before.before.before.before.least.result ≡ least (n - a.place) (length a.out.now / 4) = c.before.before.before.before.least.ensures ∙ ap (λ x. least x (length a.out.now / 4)) c.before.before.before.before.before.left_After.ensures in
-    (ap Gives count ∙ sym told, rw (told, ← count) c.before.before.put-records.ensures)
+    let a = c.args in
+    let n = c.in-Records.n in
+    let told = walk-gives a.b.now a.place a.out.now (ap checked_as (sym c.in-Records.is) ∙ c.check-checked.ensures) in
+    let count : c.least-count.result ≡ least (n - a.place) (length a.out.now / 4) = c.least-count.ensures ∙ ap (λ x. least x (length a.out.now / 4)) c.left_after.ensures in
+    (ap Gives count ∙ sym told, rw (told, ← count) c.put_records.ensures)
 
-returns-2 : tie.Need-returns-2
+returns-2 : tie.Need-returns-in-BadLength
 returns-2 c =
-    walk_refused c.before.before.before.before.before.args.b.now c.before.before.before.before.before.args.place c.before.before.before.before.before.args.out.now (ap checked_as (sym c.enum_told.given.1) ∙ c.before.before.check.ensures)
+    walk_refused c.args.b.now c.args.place c.args.out.now (ap checked_as (sym c.in-BadLength.is) ∙ c.check-checked.ensures)
 
-returns-3 : tie.Need-returns-3
+returns-3 : tie.Need-returns-in-BadVersion
 returns-3 c =
-    walk_refused c.before.before.before.before.before.args.b.now c.before.before.before.before.before.args.place c.before.before.before.before.before.args.out.now (ap checked_as (sym c.enum-told2.given.1) ∙ c.before.before.check.ensures)
+    walk_refused c.args.b.now c.args.place c.args.out.now (ap checked_as (sym c.in-BadVersion.is) ∙ c.check-checked.ensures)
 
-returns-4 : tie.Need-returns-4
+returns-4 : tie.Need-returns-in-BadRecord
 returns-4 c =
-    walk-bad c.before.before.before.before.before.before.args.b.now c.before.before.before.before.before.before.args.place c.before.before.before.before.before.before.args.out.now (ap checked_as (sym c.before.checked2.given.1) ∙ c.before.before.before.check.ensures)
+    walk-bad c.args.b.now c.args.place c.args.out.now (ap checked_as (sym c.in-BadRecord.is) ∙ c.check-checked.ensures)
 
-pub records-spec : {M : Type 1} → statement M
-records-spec =
+pub records_spec : {M : Type 1} → statement M
+records_spec =
     tie.close
     (tie.spec
     (λ c κs. search rules)
     (λ c. search rules)
     (λ c κs. search rules)
     (λ c κs. search rules)
-    put-records-requires
+    put_records-requires
     (λ c. search rules)
     (λ c. search rules)
     (λ c. search rules)

@@ -9,55 +9,55 @@ use borrow.Author.Rules.{rules}
 use Rattle.book_versions.proofs.moves.lay.Statement.{statement}
 use Rattle.book_versions.proofs.moves.lay.Tie as tie
 
-returns : tie.Need-returns
+returns : tie.Need-returns-then-to-room_for
 returns c =
-    let a = c.before.before.before.before.args in
-    let rs = recast_all a.size a.new-size (pieces a.n a.size (drop head_size a.from.now)) in
-    let count = ones-count a.from.now a.size a.new-size c.before.before.before.before.requires.0.0 c.before.before.before.before.requires.1.0 a.n in
-    lay-kept a.new-size a.version rs a.n count a.to.now (omega (arith, c.before.room_for.ensures, c.if1.true))
+    let a = c.args in
+    let rs = recast_all a.size a.new_size (pieces a.n a.size (drop head_size a.from.now)) in
+    let count = ones-count a.from.now a.size a.new_size c.requires.0.0 c.requires.1.0 a.n in
+    lay-kept a.new_size a.version rs a.n count a.to.now (omega (arith, c.room_for.ensures, c.if-to-room_for.true))
 
-mul-put-length : tie.Need-overflow-mul-put-length
-mul-put-length c = omega (arith, c.before.before.before.before.before.requires)
+mul-put_length : tie.Need-overflow_mul-n
+mul-put_length c = omega (arith, c.requires)
 
-add-put-length : tie.Need-overflow-add-put-length
-add-put-length c = omega (arith, c.before.before.before.before.before.requires)
+add-put_length : tie.Need-overflow_add-n
+add-put_length c = omega (arith, c.requires)
 
-put-length-requires : tie.Need-put-length-requires
-put-length-requires c κs =
-    (omega (arith, c.before.before.room_for.ensures, c.before.if1.false), omega (arith, c.before.before.before.before.before.requires))
+put_length-requires : tie.Need-put_length-requires
+put_length-requires c κs =
+    (omega (arith, c.room_for.ensures, c.if-to-room_for.false), omega (arith, c.requires))
 
-slice-write-to : tie.Need-slice-write-to
-slice-write-to c =
-    omega (arith, c.before.before.put-length.auto, c.before.before.before.before.before.room_for.ensures, c.before.before.before.before.if1.false)
+slice_write-to : tie.Need-bounds-to-4
+slice_write-to c =
+    omega (arith, c.put_length.auto, c.room_for.ensures, c.if-to-room_for.false)
 
-recast-all-requires : tie.Need-recast-all-requires
-recast-all-requires c κs =
-    (c.before.before.before.before.before.before.before.before.before.requires.0, (c.before.before.before.before.before.before.before.before.before.requires.1.0, rw length-set (omega (arith, c.before.before.before.put-length.auto, c.before.before.before.before.before.before.room_for.ensures, c.before.before.before.before.before.if1.false))))
+recast_all-requires : tie.Need-recast_all-requires
+recast_all-requires c κs =
+    (c.requires.0, (c.requires.1.0, rw length-set (omega (arith, c.put_length.auto, c.room_for.ensures, c.if-to-room_for.false))))
 
-same_length : tie.Need-same-length
+same_length : tie.Need-shape_of-to
 same_length c =
-    let a = c.before.before.before.before.before.before.before.before.before.before.before.before.args in omega (arith, c.before.before.recast-all.auto, c.before.before.before.before.before.before.put-length.auto, length-set c.before.before.before.before.before.before.put-length.new.0 4 a.version)
+    let a = c.args in omega (arith, c.recast_all.auto, c.put_length.auto, length-set c.put_length.new.b 4 a.version)
 
-returns-2 : tie.Need-returns-2
+returns-2 : tie.Need-returns
 returns-2 c =
-    let a = c.before.before.before.before.before.before.before.before.before.before.before.before.args in
-    let rs = recast_all a.size a.new-size (pieces a.n a.size (drop head_size a.from.now)) in
-    let count = ones-count a.from.now a.size a.new-size c.before.before.before.before.before.before.before.before.before.before.before.before.requires.0.0 c.before.before.before.before.before.before.before.before.before.before.before.before.requires.1.0 a.n in
-    let long = body-long a.from.now a.size a.new-size c.before.before.before.before.before.before.before.before.before.before.before.before.requires.0.0 c.before.before.before.before.before.before.before.before.before.before.before.before.requires.1.0 a.n c.before.before.before.before.before.before.before.before.before.before.before.before.requires.0.1 in (
-      lay-gives a.new-size a.version rs a.n count a.to.now (omega (arith, c.before.before.before.before.before.before.before.before.before.room_for.ensures, c.before.before.before.before.before.before.before.before.if1.false)),
-      lay-stores a.new-size a.version rs a.n count a.to.now _ _ long (omega (arith, c.before.before.before.before.before.before.before.before.before.room_for.ensures, c.before.before.before.before.before.before.before.before.if1.false)) c.before.before.before.before.before.before.put-length.ensures c.before.before.recast-all.ensures,
+    let a = c.args in
+    let rs = recast_all a.size a.new_size (pieces a.n a.size (drop head_size a.from.now)) in
+    let count = ones-count a.from.now a.size a.new_size c.requires.0.0 c.requires.1.0 a.n in
+    let long = body-long a.from.now a.size a.new_size c.requires.0.0 c.requires.1.0 a.n c.requires.0.1 in (
+      lay-gives a.new_size a.version rs a.n count a.to.now (omega (arith, c.room_for.ensures, c.if-to-room_for.false)),
+      lay-stores a.new_size a.version rs a.n count a.to.now _ _ long (omega (arith, c.room_for.ensures, c.if-to-room_for.false)) c.put_length.ensures c.recast_all.ensures,
     )
 
-pub lay-spec : {M : Type 1} → statement M
-lay-spec =
+pub lay_spec : {M : Type 1} → statement M
+lay_spec =
     tie.close
     (tie.spec
     (λ c κs. search rules)
     returns
-    mul-put-length
-    add-put-length
-    put-length-requires
-    slice-write-to
-    recast-all-requires
+    mul-put_length
+    add-put_length
+    put_length-requires
+    slice_write-to
+    recast_all-requires
     same_length
     returns-2)

@@ -12,32 +12,32 @@ use Rattle.book_versions.proofs.moves.put_recast.Tie as tie
 
 zero-requires : tie.Need-zero-requires
 zero-requires c κs =
-    rw (length-set c.before.before.before.before.args.to.now c.before.before.before.before.args.target) (omega (arith, c.before.before.before.before.requires))
+    rw (length-set c.args.to.now c.args.target) (omega (arith, c.requires))
 
 put-requires : tie.Need-put-requires
 put-requires c κs =
-    let a = c.before.before.before.before.before.before.before.before.before.args in
+    let a = c.args in
     let s = a.from.now in
     let d = a.at + a.size - date_size in
-    let inside : d + date_size - d ≤ length (drop d s) = rw length-drop (omega (arith, c.before.before.before.before.before.before.before.before.before.requires)) in
+    let inside : d + date_size - d ≤ length (drop d s) = rw length-drop (omega (arith, c.requires)) in
     let four = length-take-le (d + date_size - d) (drop d s) inside in
-    omega (arith, four, c.before.before.before.before.zero.auto, length-set a.to.now a.target (get_or s a.at 0), c.before.before.before.before.before.before.before.before.before.requires)
+    omega (arith, four, c.zero.auto, length-set a.to.now a.target (get_or s a.at 0), c.requires)
 
-same_length : tie.Need-same-length
+same_length : tie.Need-shape_of-to
 same_length c =
-    let a = c.before.before.before.before.before.before.before.before.before.before.before.before.args in omega (arith, c.before.before.put.auto, c.before.before.before.before.before.before.before.zero.auto, length-set a.to.now a.target (get_or a.from.now a.at 0))
+    let a = c.args in omega (arith, c.put.auto, c.zero.auto, length-set a.to.now a.target (get_or a.from.now a.at 0))
 
 returns : tie.Need-returns
 returns c =
-    let a = c.before.before.before.before.before.before.before.before.before.before.before.before.args in
+    let a = c.args in
     let d = a.at + a.size - date_size in
     let v = take (d + date_size - d) (drop d a.from.now) in
     let n : d + date_size - d ≡ date_size = omega arith in
-    recast-stores a.from.now a.at a.size c.before.before.before.before.before.before.before.before.before.before.before.before.requires.0.0 c.before.before.before.before.before.before.before.before.before.before.before.before.requires.0.1 a.new-size c.before.before.before.before.before.before.before.before.before.before.before.before.requires.1.0 a.to.now _ _ v a.target c.before.before.before.before.before.before.before.before.before.before.before.before.requires.1.1
-    c.before.before.before.before.before.before.before.zero.ensures (ap (λ (m : ℕ). take m (drop d a.from.now)) n) c.before.before.put.ensures
+    recast-stores a.from.now a.at a.size c.requires.0.0 c.requires.0.1 a.new_size c.requires.1.0 a.to.now _ _ v a.target c.requires.1.1
+    c.zero.ensures (ap (λ (m : ℕ). take m (drop d a.from.now)) n) c.put.ensures
 
-pub put-recast-spec : {M : Type 1} → statement M
-put-recast-spec =
+pub put_recast_spec : {M : Type 1} → statement M
+put_recast_spec =
     tie.close
     (tie.spec
     (λ c. search rules)

@@ -14,49 +14,49 @@ use borrow.Author.Rules.{rules}
 use Rattle.book_versions.proofs.moves.to_1.Statement.{statement}
 use Rattle.book_versions.proofs.moves.to_1.Tie as tie
 
-first-bad-requires : tie.Need-first-bad-requires
-first-bad-requires c κs =
-    let s = c.before.before.before.before.before.before.args.from.now in
-    let e = sym c.before.before.before.check.ensures ∙ ap checked_as c.before.checked.given.1 in
+first_bad-requires : tie.Need-first_bad-more-requires
+first_bad-requires c κs =
+    let s = c.args.from.now in
+    let e = sym c.check-checked.ensures ∙ ap checked_as c.in-Records.is in
     (omega arith, ones-fit version2 version2-sensible s _ e)
 
-returns : tie.Need-returns
+returns : tie.Need-returns-then-more-n
 returns c =
-    let e = sym c.before.before.before.before.before.check.ensures ∙ ap checked_as c.before.before.before.checked.given.1 in
-    down-stops c.before.before.before.before.before.before.before.before.args.from.now c.before.before.before.before.before.before.before.before.args.to.now _ e c.before.first-bad.ensures c.if1.true
+    let e = sym c.check-checked.ensures ∙ ap checked_as c.in-Records.is in
+    down-stops c.args.from.now c.args.to.now _ e c.first_bad-more.ensures c.if-more-n.true
 
 lay-requires : tie.Need-lay-requires
 lay-requires c κs =
-    let s = c.before.before.before.before.before.before.before.before.before.args.from.now in
-    let e = sym c.before.before.before.before.before.before.check.ensures ∙ ap checked_as c.before.before.before.before.checked.given.1 in
+    let s = c.args.from.now in
+    let e = sym c.check-checked.ensures ∙ ap checked_as c.in-Records.is in
     ((omega arith, ones-fit version2 version2-sensible s _ e), (omega arith, omega (arith, ones-few version2 version2-sensible s _ e)))
 
-returns-2 : tie.Need-returns-2
+returns-2 : tie.Need-returns-else-more-n
 returns-2 c =
-    let s = c.before.before.before.before.before.before.before.before.before.before.before.before.args.from.now in
-    let n = c.before.before.before.before.before.before.before.checked.given.0.0 in
-    let e = sym c.before.before.before.before.before.before.before.before.before.check.ensures ∙ ap checked_as c.before.before.before.before.before.before.before.checked.given.1 in
-    move-lays downward s c.before.before.before.before.before.before.before.before.before.before.before.before.args.to.now _ n (ones-count s 7 5 (omega arith) (omega arith) n) (down-ones s c.before.before.before.before.before.before.before.before.before.before.before.before.args.to.now n e c.before.before.before.before.before.first-bad.ensures c.before.before.before.before.if1.false) _ _ c.before.before.lay.ensures.0 c.before.before.lay.ensures.1
+    let s = c.args.from.now in
+    let n = c.in-Records.n in
+    let e = sym c.check-checked.ensures ∙ ap checked_as c.in-Records.is in
+    move-lays downward s c.args.to.now _ n (ones-count s 7 5 (omega arith) (omega arith) n) (down-ones s c.args.to.now n e c.first_bad-more.ensures c.if-more-n.false) _ _ c.lay.ensures.0 c.lay.ensures.1
 
-returns-3 : tie.Need-returns-3
+returns-3 : tie.Need-returns-in-BadLength
 returns-3 c =
-    move-refused downward c.before.before.before.before.before.args.from.now c.before.before.before.before.before.args.to.now _ (sym c.before.before.check.ensures ∙ ap checked_as c.enum_told.given.1)
+    move-refused downward c.args.from.now c.args.to.now _ (sym c.check-checked.ensures ∙ ap checked_as c.in-BadLength.is)
 
-returns-4 : tie.Need-returns-4
+returns-4 : tie.Need-returns-in-BadVersion
 returns-4 c =
-    move-refused downward c.before.before.before.before.before.args.from.now c.before.before.before.before.before.args.to.now _ (sym c.before.before.check.ensures ∙ ap checked_as c.enum-told2.given.1)
+    move-refused downward c.args.from.now c.args.to.now _ (sym c.check-checked.ensures ∙ ap checked_as c.in-BadVersion.is)
 
-returns-5 : tie.Need-returns-5
+returns-5 : tie.Need-returns-in-BadRecord
 returns-5 c =
-    move-bad downward c.before.before.before.before.before.before.args.from.now c.before.before.before.before.before.before.args.to.now _ _ (sym c.before.before.before.check.ensures ∙ ap checked_as c.before.checked2.given.1)
+    move-bad downward c.args.from.now c.args.to.now _ _ (sym c.check-checked.ensures ∙ ap checked_as c.in-BadRecord.is)
 
-pub to-1-spec : {M : Type 1} → statement M
-to-1-spec =
+pub to_1_spec : {M : Type 1} → statement M
+to_1_spec =
     tie.close
     (tie.spec
     (λ c κs. search rules)
     (λ c. search rules)
-    first-bad-requires
+    first_bad-requires
     returns
     lay-requires
     (λ c. search rules)

@@ -14,31 +14,31 @@ use Rattle.book_versions.proofs.moves.to_2.Tie as tie
 
 lay-requires : tie.Need-lay-requires
 lay-requires c κs =
-    let s = c.before.before.before.before.before.before.before.args.from.now in
-    let e = sym c.before.before.before.before.check.ensures ∙ ap checked_as c.before.before.checked.given.1 in
+    let s = c.args.from.now in
+    let e = sym c.check-checked.ensures ∙ ap checked_as c.in-Records.is in
     ((omega arith, ones-fit version1 version1-sensible s _ e), (omega arith, omega (arith, ones-few version1 version1-sensible s _ e)))
 
-returns : tie.Need-returns
+returns : tie.Need-returns-in-Records
 returns c =
-    let s = c.before.before.before.before.before.before.before.before.before.before.args.from.now in
-    let n = c.before.before.before.before.before.checked.given.0.0 in
-    let e = sym c.before.before.before.before.before.before.before.check.ensures ∙ ap checked_as c.before.before.before.before.before.checked.given.1 in
-    move-lays upward s c.before.before.before.before.before.before.before.before.before.before.args.to.now _ n (ones-count s 5 7 (omega arith) (omega arith) n) (up-ones s c.before.before.before.before.before.before.before.before.before.before.args.to.now n e) _ _ c.before.before.lay.ensures.0 c.before.before.lay.ensures.1
+    let s = c.args.from.now in
+    let n = c.in-Records.n in
+    let e = sym c.check-checked.ensures ∙ ap checked_as c.in-Records.is in
+    move-lays upward s c.args.to.now _ n (ones-count s 5 7 (omega arith) (omega arith) n) (up-ones s c.args.to.now n e) _ _ c.lay.ensures.0 c.lay.ensures.1
 
-returns-2 : tie.Need-returns-2
+returns-2 : tie.Need-returns-in-BadLength
 returns-2 c =
-    move-refused upward c.before.before.before.before.before.args.from.now c.before.before.before.before.before.args.to.now _ (sym c.before.before.check.ensures ∙ ap checked_as c.enum_told.given.1)
+    move-refused upward c.args.from.now c.args.to.now _ (sym c.check-checked.ensures ∙ ap checked_as c.in-BadLength.is)
 
-returns-3 : tie.Need-returns-3
+returns-3 : tie.Need-returns-in-BadVersion
 returns-3 c =
-    move-refused upward c.before.before.before.before.before.args.from.now c.before.before.before.before.before.args.to.now _ (sym c.before.before.check.ensures ∙ ap checked_as c.enum-told2.given.1)
+    move-refused upward c.args.from.now c.args.to.now _ (sym c.check-checked.ensures ∙ ap checked_as c.in-BadVersion.is)
 
-returns-4 : tie.Need-returns-4
+returns-4 : tie.Need-returns-in-BadRecord
 returns-4 c =
-    move-bad upward c.before.before.before.before.before.before.args.from.now c.before.before.before.before.before.before.args.to.now _ _ (sym c.before.before.before.check.ensures ∙ ap checked_as c.before.checked2.given.1)
+    move-bad upward c.args.from.now c.args.to.now _ _ (sym c.check-checked.ensures ∙ ap checked_as c.in-BadRecord.is)
 
-pub to-2-spec : {M : Type 1} → statement M
-to-2-spec =
+pub to_2_spec : {M : Type 1} → statement M
+to_2_spec =
     tie.close
     (tie.spec
     (λ c κs. search rules)

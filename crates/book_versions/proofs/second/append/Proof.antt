@@ -12,34 +12,34 @@ use borrow.Author.Rules.{rules}
 use Rattle.book_versions.proofs.second.append.Statement.{statement}
 use Rattle.book_versions.proofs.second.append.Tie as tie
 
-append-record-requires : tie.Need-append-record-requires
-append-record-requires c κs =
-    let a = c.before.before.before.before.before.before.args in
-    let long : length c.before.before.bytes_of.result ≡ 7 = ap length c.before.before.bytes_of.ensures ∙ field-entry-long (kind_of a.kind) a.field (bits_of a.date) in
+append_record-requires : tie.Need-append_record-requires
+append_record-requires c κs =
+    let a = c.args in
+    let long : length c.bytes_of-piece.result ≡ 7 = ap length c.bytes_of-piece.ensures ∙ field-entry-long (kind_of a.kind) a.field (bits_of a.date) in
     (omega arith, omega arith)
 
-returns : tie.Need-returns
+returns : tie.Need-returns-then-is_of_kind
 returns c =
-    let a = c.before.before.before.before.before.before.before.before.before.args in
+    let a = c.args in
     let s = a.b.now in
     let r = field_entry_bytes (kind_of a.kind) a.field (bits_of a.date) in
-    rw (entry-given a.kind a.field a.date (omega arith) (sym c.before.before.before.before.before.before.before.is-of-kind.ensures ∙ c.before.before.before.before.before.before.if1.true), ← append-two s (Gives r), ← buffer-two s (Gives r))
-    (rw (c.before.before.before.before.before.bytes_of.ensures, field-entry-long (kind_of a.kind) a.field (bits_of a.date)) at c.before.before.append-record.ensures)
+    rw (entry-given a.kind a.field a.date (omega arith) (sym c.is_of_kind.ensures ∙ c.if-is_of_kind.true), ← append-two s (Gives r), ← buffer-two s (Gives r))
+    (rw (c.bytes_of-piece.ensures, field-entry-long (kind_of a.kind) a.field (bits_of a.date)) at c.append_record.ensures)
 
-returns-2 : tie.Need-returns-2
+returns-2 : tie.Need-returns
 unfolding append_answer append_buffer
 returns-2 c =
-    let a = c.before.before.before.args in
-    rw (entry-not a.kind a.field a.date (omega arith) (sym c.before.is-of-kind.ensures ∙ c.if1.false)) (refl, refl)
+    let a = c.args in
+    rw (entry-not a.kind a.field a.date (omega arith) (sym c.is_of_kind.ensures ∙ c.if-is_of_kind.false)) (refl, refl)
 
-pub append-spec : {M : Type 1} → statement M
-append-spec =
+pub append_spec : {M : Type 1} → statement M
+append_spec =
     tie.close
     (tie.spec
     (λ c κs. search rules)
     (λ c κs. search rules)
     (λ c. search rules)
-    append-record-requires
+    append_record-requires
     (λ c. search rules)
     returns
     returns-2)

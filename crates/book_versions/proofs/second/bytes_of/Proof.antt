@@ -12,12 +12,12 @@ use Rattle.book_versions.proofs.second.bytes_of.Tie as tie
 returns : tie.Need-returns
 unfolding field_entry_bytes entry_bytes big_bytes
 returns c =
-    let field = c.before.args.field in
+    let field = c.args.field in
     let high : field / 256 % 256 ≡ field / 256 = omega arith in
-    rw (c.bytes_of.ensures, high)
+    rw (c.bytes_of-five.ensures, high)
 
-pub bytes-of-spec : {M : Type 1} → statement M
-bytes-of-spec =
+pub bytes_of_spec : {M : Type 1} → statement M
+bytes_of_spec =
     tie.close
     (tie.spec
     (λ c κs. search rules)

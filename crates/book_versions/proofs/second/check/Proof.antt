@@ -6,7 +6,7 @@ use Rattle.book_versions.proofs.second.check.Statement.{statement}
 use Rattle.book_versions.proofs.second.check.Tie as tie
 
 returns : tie.Need-returns
-returns c = c.check-of.ensures ∙ check-two c.before.before.args.b.now
+returns c = c.check_of.ensures ∙ check-two c.args.b.now
 
-pub check-spec : {M : Type 1} → statement M
-check-spec = tie.close (tie.spec (λ c κs. search rules) returns)
+pub check_spec : {M : Type 1} → statement M
+check_spec = tie.close (tie.spec (λ c κs. search rules) returns)

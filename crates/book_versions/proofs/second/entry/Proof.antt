@@ -6,11 +6,11 @@ use Rattle.book_versions.proofs.Versions.{check-two, entry-two}
 use Rattle.book_versions.proofs.second.entry.Statement.{statement}
 use Rattle.book_versions.proofs.second.entry.Tie as tie
 
-entry-of-requires : tie.Need-entry-of-requires
-entry-of-requires c κs = (omega arith, omega arith, ap given (check-two c.before.args.b.now) ∙ c.before.requires)
+entry_of-requires : tie.Need-entry_of-requires
+entry_of-requires c κs = (omega arith, omega arith, ap given (check-two c.args.b.now) ∙ c.requires)
 
 returns : tie.Need-returns
-returns c = c.entry_of.ensures ∙ entry-two c.before.before.args.b.now c.before.before.args.place
+returns c = c.entry_of.ensures ∙ entry-two c.args.b.now c.args.place
 
 pub entry_spec : {M : Type 1} → statement M
-entry_spec = tie.close (tie.spec entry-of-requires returns)
+entry_spec = tie.close (tie.spec entry_of-requires returns)

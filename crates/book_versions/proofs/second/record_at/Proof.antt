@@ -7,7 +7,7 @@ use Rattle.book_versions.proofs.second.record_at.Tie as tie
 
 returns : tie.Need-returns
 returns c =
-    c.record_of.ensures ∙ entry-two c.before.before.args.b.now c.before.before.args.place
+    c.record_of.ensures ∙ entry-two c.args.b.now c.args.place
 
-pub record-at-spec : {M : Type 1} → statement M
-record-at-spec = tie.close (tie.spec (λ c κs. search rules) returns)
+pub record_at_spec : {M : Type 1} → statement M
+record_at_spec = tie.close (tie.spec (λ c κs. search rules) returns)

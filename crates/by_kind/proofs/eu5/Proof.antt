@@ -3,13 +3,13 @@ use borrow.Author.Rules.{rules}
 use Rattle.by_kind.proofs.eu5.Statement.{statement}
 use Rattle.by_kind.proofs.eu5.Tie as tie
 
-pub eu5-spec : {M : Type 1} → statement M
-eu5-spec =
+pub eu5_spec : {M : Type 1} → statement M
+eu5_spec =
     tie.close
     (tie.spec
     (λ c. search rules)
     (λ c. search rules)
     (λ c. search rules)
-    (λ c. rw c.before.before.read.given.1)
-    (λ c. rw c.enum_told.given.1)
-    (λ c. rw c.enum-told2.given.1))
+    (λ c. rw c.in-Date.is)
+    (λ c. rw c.in-TooLong.is)
+    (λ c. rw c.in-NotText.is))

@@ -3,13 +3,13 @@ use borrow.Author.Rules.{rules}
 use Rattle.by_kind.proofs.raw.Statement.{statement}
 use Rattle.by_kind.proofs.raw.Tie as tie
 
-pub raw-spec : {M : Type 1} → statement M
-raw-spec =
+pub raw_spec : {M : Type 1} → statement M
+raw_spec =
     tie.close
     (tie.spec
     (λ c. search rules)
     (λ c. search rules)
     (λ c. search rules)
-    (λ c. rw c.before.before.read.given.1)
-    (λ c. rw c.enum_told.given.1)
-    (λ c. rw c.enum-told2.given.1))
+    (λ c. rw c.in-Date.is)
+    (λ c. rw c.in-TooLong.is)
+    (λ c. rw c.in-NotText.is))

@@ -8,26 +8,26 @@ use Rattle.date.proofs.Shapes.{first-is}
 use Rattle.date.proofs.shape_allowed.Statement.{statement}
 use Rattle.date.proofs.shape_allowed.Tie as tie
 
-returns : tie.Need-returns
+returns : tie.Need-returns-then-n-lt5
 unfolding shape_allowed
-returns c = rw (lt-leb 5 (length c.before.before.args.s.now) c.if1.true)
+returns c = rw (lt-leb 5 (length c.args.s.now) c.if-n-lt5.true)
 
-returns-2 : tie.Need-returns-2
+returns-2 : tie.Need-returns-then-n-gt12
 unfolding shape_allowed
 returns-2 c =
-    rw (le-leb 5 (length c.before.before.before.args.s.now) c.before.if1.false, lt-leb (length c.before.before.before.args.s.now) 12 c.if2.true)
+    rw (le-leb 5 (length c.args.s.now) c.if-n-lt5.false, lt-leb (length c.args.s.now) 12 c.if-n-gt12.true)
 
-returns-3 : tie.Need-returns-3
+returns-3 : tie.Need-returns-then-s-eq43
 unfolding shape_allowed
 returns-3 c =
-    let s = c.before.before.before.before.before.before.args.s.now in rw (le-leb 5 (length s) c.before.before.before.before.if1.false, le-leb (length s) 12 c.before.before.before.if2.false, first-is s (omega arith), eq-eqb _ 43 c.before.if3.true) c.plus-allowed.ensures
+    let s = c.args.s.now in rw (le-leb 5 (length s) c.if-n-lt5.false, le-leb (length s) 12 c.if-n-gt12.false, first-is s (omega arith), eq-eqb _ 43 c.if-s-eq43.true) c.plus_allowed.ensures
 
-returns-4 : tie.Need-returns-4
+returns-4 : tie.Need-returns
 unfolding shape_allowed
 returns-4 c =
-    let s = c.before.before.before.before.before.args.s.now in rw (le-leb 5 (length s) c.before.before.before.if1.false, le-leb (length s) 12 c.before.before.if2.false, first-is s (omega arith), ne_eqb _ 43 c.if3.false)
+    let s = c.args.s.now in rw (le-leb 5 (length s) c.if-n-lt5.false, le-leb (length s) 12 c.if-n-gt12.false, first-is s (omega arith), ne_eqb _ 43 c.if-s-eq43.false)
 
-pub shape-allowed-spec : {M : Type 1} → statement M
-shape-allowed-spec =
+pub shape_allowed_spec : {M : Type 1} → statement M
+shape_allowed_spec =
     tie.close
     (tie.spec returns returns-2 (λ c. omega arith) (λ c κs. search rules) returns-3 returns-4)

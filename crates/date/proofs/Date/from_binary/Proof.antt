@@ -5,10 +5,10 @@ use Rattle.number.proofs.Laws.{read-answers}
 use Rattle.date.proofs.Date.from_binary.Statement.{statement}
 use Rattle.date.proofs.Date.from_binary.Tie as tie
 
-pub from-binary-spec : {M : Type 1} → statement M
-from-binary-spec =
+pub from_binary_spec : {M : Type 1} → statement M
+from_binary_spec =
     tie.close
     (tie.spec
     (λ c κs. search rules) (λ c. search rules) (λ c. search rules)
-    (λ c. read-answers kD c.before.before.before.before.ranges.s c.before.before.before.from-binary.ensures c.before.read.given.1)
-    (λ c. read-answers kD c.before.before.before.ranges.s c.before.before.from-binary.ensures c.enum_told.given.1))
+    (λ c. read-answers kD c.ranges.s c.from_binary-read.ensures c.in-Date.is)
+    (λ c. read-answers kD c.ranges.s c.from_binary-read.ensures c.in-NotNumber.is))

@@ -6,10 +6,10 @@ use Rattle.kinds.proofs.Laws.{made-answers}
 use Rattle.date.proofs.Date.from_ymd_opt.Statement.{statement}
 use Rattle.date.proofs.Date.from_ymd_opt.Tie as tie
 
-pub from-ymd-opt-spec : {M : Type 1} → statement M
-from-ymd-opt-spec =
+pub from_ymd_opt_spec : {M : Type 1} → statement M
+from_ymd_opt_spec =
     tie.close
     (tie.spec
     (λ c κs. search rules) (λ c. search rules) (λ c. search rules)
-    (λ c. made-answers kD _ refl c.before.before.before.before.ranges.year c.before.before.before.make.ensures c.before.made.given.1)
-    (λ c. made-answers kD _ refl c.before.before.before.ranges.year c.before.before.make.ensures c.enum_told.given.1))
+    (λ c. made-answers kD _ refl c.ranges.year c.make-made.ensures c.in-Date.is)
+    (λ c. made-answers kD _ refl c.ranges.year c.make-made.ensures c.in-None.is))

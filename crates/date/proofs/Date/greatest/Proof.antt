@@ -9,5 +9,5 @@ returns : tie.Need-returns
 unfolding packed greatest lengths month_length
 returns c = refl
 
-pub greatest-spec : {M : Type 1} → statement M
-greatest-spec = tie.close (tie.spec returns)
+pub greatest_spec : {M : Type 1} → statement M
+greatest_spec = tie.close (tie.spec returns)

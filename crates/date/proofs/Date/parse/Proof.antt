@@ -6,19 +6,19 @@ use Rattle.fast_date.proofs.Eight.{quick-is}
 use Rattle.date.proofs.Date.parse.Statement.{statement}
 use Rattle.date.proofs.Date.parse.Tie as tie
 
-returns : tie.Need-returns
+returns : tie.Need-returns-in-Date
 returns c =
-    quick-is c.before.before.before.before.before.args.s.now _ (ap quick (sym c.before.fast.given.1) ∙ c.before.before.before.fast-parse.ensures)
+    quick-is c.args.s.now _ (ap quick (sym c.in-Date.is) ∙ c.fast_parse-fast.ensures)
 
-returns-2 : tie.Need-returns-2
+returns-2 : tie.Need-returns-in-NotText
 returns-2 c =
-    quick-is c.before.before.before.before.args.s.now _ (ap quick (sym c.enum_told.given.1) ∙ c.before.before.fast-parse.ensures)
+    quick-is c.args.s.now _ (ap quick (sym c.in-NotText.is) ∙ c.fast_parse-fast.ensures)
 
-returns-3 : tie.Need-returns-3
+returns-3 : tie.Need-returns-in-Silent
 returns-3 c = c.plain.ensures
 
-pub parse-spec : {M : Type 1} → statement M
-parse-spec =
+pub parse_spec : {M : Type 1} → statement M
+parse_spec =
     tie.close
     (tie.spec
     (λ c κs. search rules)

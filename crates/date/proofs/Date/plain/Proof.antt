@@ -6,16 +6,16 @@ use Rattle.reading.proofs.Texts.{too_long_lem, shape-refused, lead-refused, rest
 use Rattle.date.proofs.Date.plain.Statement.{statement}
 use Rattle.date.proofs.Date.plain.Tie as tie
 
-pub plain-spec : {M : Type 1} → statement M
-plain-spec =
+pub plain_spec : {M : Type 1} → statement M
+plain_spec =
     tie.close
     (tie.spec
-    (λ c. sym (too_long_lem kD _ c.if1.true))
+    (λ c. sym (too_long_lem kD _ c.if-s-gt-TEXT_LIMIT.true))
     (λ c κs. search rules) (λ c κs. search rules) (λ c. search rules) (λ c. search rules)
-    (λ c. let at = c.before.before.before in lead-refused kD _ at.before.before.if1.false (sym at.before.shape-allowed.ensures ∙ at.if2.true) c.before.before.to-i64-t.ensures.0 c.enum_told.given.1)
+    (λ c. let at = c in lead-refused kD _ at.if-s-gt-TEXT_LIMIT.false (sym at.shape_allowed.ensures ∙ at.if-shape_allowed.true) c.to_i64_t.ensures.0 c.in_default.is)
     (λ c κs. search rules) (λ c. search rules) (λ c. search rules)
-    (λ c. let at = c.before.before.before.before.before.before.before.before in rest_read kD _ at.before.before.if1.false (sym at.before.shape-allowed.ensures ∙ at.if2.true) c.before.before.before.before.before.before.before.to-i64-t.ensures.0 c.before.before.before.before.before.value.given.1
-    c.before.before.before.before.known-told.given.0.1 c.before.before.before.read-rest.ensures c.before.made.given.1)
-    (λ c. let at = c.before.before.before.before.before.before.before in rest_read kD _ at.before.before.if1.false (sym at.before.shape-allowed.ensures ∙ at.if2.true) c.before.before.before.before.before.before.to-i64-t.ensures.0 c.before.before.before.before.value.given.1
-    c.before.before.before.known-told.given.0.1 c.before.before.read-rest.ensures c.enum-told2.given.1)
-    (λ c. sym (shape-refused kD _ c.before.before.if1.false (sym c.before.shape-allowed.ensures ∙ c.if2.false))))
+    (λ c. let at = c in rest_read kD _ at.if-s-gt-TEXT_LIMIT.false (sym at.shape_allowed.ensures ∙ at.if-shape_allowed.true) c.to_i64_t.ensures.0 c.in-Number.is
+    c.in-Number.known_told-1-own.given.0.1 c.read_rest-made.ensures c.in-Date.is)
+    (λ c. let at = c in rest_read kD _ at.if-s-gt-TEXT_LIMIT.false (sym at.shape_allowed.ensures ∙ at.if-shape_allowed.true) c.to_i64_t.ensures.0 c.in-Number.is
+    c.in-Number.known_told-1-own.given.0.1 c.read_rest-made.ensures c.in-None.is)
+    (λ c. sym (shape-refused kD _ c.if-s-gt-TEXT_LIMIT.false (sym c.shape_allowed.ensures ∙ c.if-shape_allowed.false))))

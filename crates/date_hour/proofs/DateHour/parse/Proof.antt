@@ -7,16 +7,16 @@ use Rattle.reading.proofs.Texts.{too_long_lem, lead-refused, rest_read}
 use Rattle.date_hour.proofs.DateHour.parse.Statement.{statement}
 use Rattle.date_hour.proofs.DateHour.parse.Tie as tie
 
-pub parse-spec : {M : Type 1} → statement M
+pub parse_spec : {M : Type 1} → statement M
 unfolding shape_allowed
-parse-spec =
+parse_spec =
     tie.close
     (tie.spec
-    (λ c. sym (too_long_lem kH _ c.if1.true))
+    (λ c. sym (too_long_lem kH _ c.if-s-gt-TEXT_LIMIT.true))
     (λ c κs. search rules) (λ c. search rules) (λ c. search rules)
-    (λ c. lead-refused kH _ c.before.before.before.if1.false refl c.before.before.to-i64-t.ensures.0 c.enum_told.given.1)
+    (λ c. lead-refused kH _ c.if-s-gt-TEXT_LIMIT.false refl c.to_i64_t.ensures.0 c.in_default.is)
     (λ c κs. search rules) (λ c. search rules) (λ c. search rules)
-    (λ c. let at = c.before.before.before.before.before in rest_read kH _ at.before.before.before.if1.false refl at.before.before.to-i64-t.ensures.0 at.value.given.1
-    c.before.before.before.before.known-told.given.0.1 c.before.before.before.read-rest.ensures c.before.made.given.1)
-    (λ c. let at = c.before.before.before.before in rest_read kH _ at.before.before.before.if1.false refl at.before.before.to-i64-t.ensures.0 at.value.given.1
-    c.before.before.before.known-told.given.0.1 c.before.before.read-rest.ensures c.enum-told2.given.1))
+    (λ c. let at = c in rest_read kH _ at.if-s-gt-TEXT_LIMIT.false refl at.to_i64_t.ensures.0 at.in-Number.is
+    c.in-Number.known_told-1-own.given.0.1 c.read_rest-made.ensures c.in-Date.is)
+    (λ c. let at = c in rest_read kH _ at.if-s-gt-TEXT_LIMIT.false refl at.to_i64_t.ensures.0 at.in-Number.is
+    c.in-Number.known_told-1-own.given.0.1 c.read_rest-made.ensures c.in-None.is))

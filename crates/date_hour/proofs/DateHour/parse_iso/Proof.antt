@@ -6,13 +6,13 @@ use Rattle.iso_reading.proofs.Texts.{too_long_lem, iso-read}
 use Rattle.date_hour.proofs.DateHour.parse_iso.Statement.{statement}
 use Rattle.date_hour.proofs.DateHour.parse_iso.Tie as tie
 
-pub parse-iso-spec : {M : Type 1} → statement M
-parse-iso-spec =
+pub parse_iso_spec : {M : Type 1} → statement M
+parse_iso_spec =
     tie.close
     (tie.spec
-    (λ c. sym (too_long_lem kH _ c.if1.true))
+    (λ c. sym (too_long_lem kH _ c.if-s-gt-TEXT_LIMIT.true))
     (λ c κs. search rules)
     (λ c. search rules)
     (λ c. search rules)
-    (λ c. iso-read kH _ c.before.before.before.before.if1.false c.before.before.before.read.ensures c.before.made.given.1)
-    (λ c. iso-read kH _ c.before.before.before.if1.false c.before.before.read.ensures c.enum_told.given.1))
+    (λ c. iso-read kH _ c.if-s-gt-TEXT_LIMIT.false c.read-made.ensures c.in-Date.is)
+    (λ c. iso-read kH _ c.if-s-gt-TEXT_LIMIT.false c.read-made.ensures c.in-None.is))

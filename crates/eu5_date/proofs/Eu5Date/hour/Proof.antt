@@ -7,12 +7,12 @@ use Rattle.kinds.specs.Views.{opened_as}
 use Rattle.eu5_date.proofs.Eu5Date.hour.Statement.{statement}
 use Rattle.eu5_date.proofs.Eu5Date.hour.Tie as tie
 
-returns : tie.Need-returns
-returns c = rw (← c.before.before.before.unpack.ensures, c.before.opened.given.1)
+returns : tie.Need-returns-in-Fields
+returns c = rw (← c.unpack-opened.ensures, c.in-Fields.is)
 
-returns-2 : tie.Need-returns-2
-returns-2 c = rw (← c.before.before.unpack.ensures, c.enum_told.given.1)
+returns-2 : tie.Need-returns-in-NotOfKind
+returns-2 c = rw (← c.unpack-opened.ensures, c.in-NotOfKind.is)
 
-pub hour-spec : {M : Type 1} → statement M
-hour-spec =
+pub hour_spec : {M : Type 1} → statement M
+hour_spec =
     tie.close (tie.spec (λ c κs. search rules) (λ c. search rules) (λ c. search rules) (λ c. search rules) returns returns-2)

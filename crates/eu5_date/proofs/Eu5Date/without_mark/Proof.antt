@@ -6,12 +6,12 @@ use Rattle.kinds.specs.Views.{made_as}
 use Rattle.eu5_date.proofs.Eu5Date.without_mark.Statement.{statement}
 use Rattle.eu5_date.proofs.Eu5Date.without_mark.Tie as tie
 
-returns : tie.Need-returns
-returns c = ap (made_as not_of_kind) (sym c.before.made.given.1) ∙ c.before.before.before.without-mark.ensures
+returns : tie.Need-returns-in-Date
+returns c = ap (made_as not_of_kind) (sym c.in-Date.is) ∙ c.without_mark-made.ensures
 
-returns-2 : tie.Need-returns-2
-returns-2 c = ap (made_as not_of_kind) (sym c.enum_told.given.1) ∙ c.before.before.without-mark.ensures
+returns-2 : tie.Need-returns-in-None
+returns-2 c = ap (made_as not_of_kind) (sym c.in-None.is) ∙ c.without_mark-made.ensures
 
-pub without-mark-spec : {M : Type 1} → statement M
-without-mark-spec =
+pub without_mark_spec : {M : Type 1} → statement M
+without_mark_spec =
     tie.close (tie.spec (λ c κs. search rules) (λ c. search rules) (λ c. search rules) returns returns-2)

@@ -8,5 +8,5 @@ returns : tie.Need-returns
 unfolding packed greatest
 returns c = refl
 
-pub greatest-spec : {M : Type 1} → statement M
-greatest-spec = tie.close (tie.spec returns)
+pub greatest_spec : {M : Type 1} → statement M
+greatest_spec = tie.close (tie.spec returns)

@@ -8,5 +8,5 @@ returns : tie.Need-returns
 unfolding packed least
 returns c = refl
 
-pub least-spec : {M : Type 1} → statement M
-least-spec = tie.close (tie.spec returns)
+pub least_spec : {M : Type 1} → statement M
+least_spec = tie.close (tie.spec returns)

@@ -14,7 +14,7 @@ use Rattle.sign.proofs.Laws.{same, ints, one_side, yes_lt, no_lt, up-sub, dn-sub
 use Rattle.rules.specs.Refusals.{Answer, Gives, given}
 use Rattle.rules.specs.Calendar.{month_day, month_length}
 use Rattle.rules.specs.Kinds.{Kind, kR, kD, kH, kU, kE, kV, Fields, of_kind, Stored, store_like, handed, of_date}
-use Rattle.rules.specs.Days.{day_number_at, counts_days, day_fields, date_within, summed, summed_hour}
+use Rattle.rules.specs.Days.{add_days, day_number_at, counts_days, day_fields, date_within, summed, summed_hour}
 use Rattle.rules.proofs.OnKinds.KindLaws.{keeps_months, fit, month-fits}
 use Rattle.rules.proofs.OnDays.OrderLaws.{hour-small}
 use Rattle.rules.proofs.OnKinds.PackLaws.{handed-tells}
@@ -113,7 +113,12 @@ module _ (k : Kind) (d : Stored) (f : Fields) (e : handed k d ≡ Gives f) where
 
 -- ---- a kind's answer, from the core's: days, or whatever is added, come to it as 32 bits
 
-pub sum-answers : (k : Kind) (d : Stored) (add : Fields → ℤ → Answer Fields) {count : ℤ} {sum r : Sum} → SFits w32 count →
+pub sum-answers-by : (k : Kind) (d : Stored) (add : Fields → ℤ → Answer Fields) {count : ℤ} {sum r : Sum} → SFits w32 count →
     summed_as sum ≡ store_like d (of_date k d (λ f. add f (to_z w32 (of_z w32 count)))) → sum ≡ r →
     summed_as r ≡ store_like d (of_date k d (λ f. add f count))
-sum-answers k d add fits is same = ap summed_as (sym same) ∙ (rw (to_z-of_z fits) at is)
+sum-answers-by k d add fits is same = ap summed_as (sym same) ∙ (rw (to_z-of_z fits) at is)
+
+pub sum-answers : (k : Kind) (d : Stored) {days : ℤ} {sum r : Sum} → SFits w32 days →
+    summed_as sum ≡ store_like d (of_date k d (λ f. add_days k f (to_z w32 (of_z w32 days)))) → sum ≡ r →
+    summed_as r ≡ store_like d (of_date k d (λ f. add_days k f days))
+sum-answers k d fits is same = sum-answers-by k d (add_days k) fits is same

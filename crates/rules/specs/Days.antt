@@ -31,15 +31,15 @@ difference k f g = demand (counts_days k) not_of_kind (Gives (day_number g -ℤ 
 unfoldable pub day_fields : ℤ → ℕ → Fields
 day_fields n h = on_day (quot_z n (pos 365)) (nat_abs (rem_z n (pos 365))) h
 
--- "A sum n outside 32 bits is refusal 5; outside" the range from -low to high "refusal 6; otherwise there is a date": over the range
--- and the date of a number, for days and, by #111 of document 02, for hours
+-- "A sum n outside 32 bits is refusal 5; outside -11,960,684 to 11,960,319 refusal 6; otherwise there is a date"
+unfoldable pub summed : ℤ → ℕ → Answer Fields
+summed n h =
+    demand (fits32 n) sum_overflows (demand (within_z (minus 11960684) (pos 11960319) n) out_of_range (Gives (day_fields n h)))
+
+-- the same over the range, from -low to high, and over the date of a number: for days, and by #111 of document 02 for hours
 abbrev pub date_within : ℕ → ℕ → (ℤ → Fields) → ℤ → Answer Fields
 date_within low high date n =
     demand (fits32 n) sum_overflows (demand (within_z (minus low) (pos high) n) out_of_range (Gives (date n)))
-
--- of days "outside -11,960,684 to 11,960,319"
-unfoldable pub summed : ℤ → ℕ → Answer Fields
-summed n h = date_within 11960684 11960319 (λ m. day_fields m h) n
 
 -- "V adds likewise and keeps its hour; E's result has hour 0"; D has no other
 abbrev pub summed_hour : Kind → ℕ → ℕ

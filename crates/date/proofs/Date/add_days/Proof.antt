@@ -11,7 +11,7 @@ add_days_spec =
     tie.close
     (tie.spec
     (λ c κs. search rules) (λ c. search rules) (λ c. search rules) (λ c. search rules) (λ c. search rules)
-    (λ c. sum-answers kD _ (add_days kD) c.ranges.days c.add_days-sum.ensures c.in-Date.is)
-    (λ c. sum-answers kD _ (add_days kD) c.ranges.days c.add_days-sum.ensures c.in-NotOfKind.is)
-    (λ c. sum-answers kD _ (add_days kD) c.ranges.days c.add_days-sum.ensures c.in-Overflow.is)
-    (λ c. sum-answers kD _ (add_days kD) c.ranges.days c.add_days-sum.ensures c.in-OutOfRange.is))
+    (λ c. sum-answers kD _ c.ranges.days c.add_days-sum.ensures c.in-Date.is)
+    (λ c. sum-answers kD _ c.ranges.days c.add_days-sum.ensures c.in-NotOfKind.is)
+    (λ c. sum-answers kD _ c.ranges.days c.add_days-sum.ensures c.in-Overflow.is)
+    (λ c. sum-answers kD _ c.ranges.days c.add_days-sum.ensures c.in-OutOfRange.is))

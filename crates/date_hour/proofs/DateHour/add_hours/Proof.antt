@@ -2,7 +2,7 @@
 use borrow.Author.Rules.{rules}
 use Rattle.rules.specs.Kinds.{kH}
 use Rattle.requests.specs.Hours.{add_hours}
-use Rattle.day_count.proofs.Laws.{sum-answers}
+use Rattle.day_count.proofs.Laws.{sum-answers-by}
 use Rattle.date_hour.proofs.DateHour.add_hours.Statement.{statement}
 use Rattle.date_hour.proofs.DateHour.add_hours.Tie as tie
 
@@ -11,7 +11,7 @@ add_hours_spec =
     tie.close
     (tie.spec
     (λ c κs. search rules) (λ c. search rules) (λ c. search rules) (λ c. search rules) (λ c. search rules)
-    (λ c. sum-answers kH _ (add_hours kH) c.ranges.hours c.add-sum.ensures c.in-Date.is)
-    (λ c. sum-answers kH _ (add_hours kH) c.ranges.hours c.add-sum.ensures c.in-NotOfKind.is)
-    (λ c. sum-answers kH _ (add_hours kH) c.ranges.hours c.add-sum.ensures c.in-Overflow.is)
-    (λ c. sum-answers kH _ (add_hours kH) c.ranges.hours c.add-sum.ensures c.in-OutOfRange.is))
+    (λ c. sum-answers-by kH _ (add_hours kH) c.ranges.hours c.add-sum.ensures c.in-Date.is)
+    (λ c. sum-answers-by kH _ (add_hours kH) c.ranges.hours c.add-sum.ensures c.in-NotOfKind.is)
+    (λ c. sum-answers-by kH _ (add_hours kH) c.ranges.hours c.add-sum.ensures c.in-Overflow.is)
+    (λ c. sum-answers-by kH _ (add_hours kH) c.ranges.hours c.add-sum.ensures c.in-OutOfRange.is))

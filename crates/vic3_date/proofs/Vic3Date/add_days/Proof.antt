@@ -11,7 +11,7 @@ add_days_spec =
     tie.close
     (tie.spec
     (λ c κs. search rules) (λ c. search rules) (λ c. search rules) (λ c. search rules) (λ c. search rules)
-    (λ c. sum-answers kV _ (add_days kV) c.ranges.days c.add_days-sum.ensures c.in-Date.is)
-    (λ c. sum-answers kV _ (add_days kV) c.ranges.days c.add_days-sum.ensures c.in-NotOfKind.is)
-    (λ c. sum-answers kV _ (add_days kV) c.ranges.days c.add_days-sum.ensures c.in-Overflow.is)
-    (λ c. sum-answers kV _ (add_days kV) c.ranges.days c.add_days-sum.ensures c.in-OutOfRange.is))
+    (λ c. sum-answers kV _ c.ranges.days c.add_days-sum.ensures c.in-Date.is)
+    (λ c. sum-answers kV _ c.ranges.days c.add_days-sum.ensures c.in-NotOfKind.is)
+    (λ c. sum-answers kV _ c.ranges.days c.add_days-sum.ensures c.in-Overflow.is)
+    (λ c. sum-answers kV _ c.ranges.days c.add_days-sum.ensures c.in-OutOfRange.is))

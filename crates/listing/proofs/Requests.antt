@@ -57,6 +57,7 @@ module _ (s : List ℕ) (k : Kind) (w : Way) (line : read_line s ≡ Gives (reco
       let same : stored_with (mark_by w) f ≡ b = ap (back_one (λ (x : Stored). x) b) (sym q) in
       subst Printed same (by-fields f e p)
   by-told (Refused n) b (refuses h) e q = let z : ◌≡◌ {A = ℕ} 0 1 = ap (back_one (λ (x : Stored). 0) 1) q in absurd (omega arith)
+  by-told (RefusedAt n i) b o e q = elim o [ ]
 
   pub date-output : (b : Stored) → Gives b ≡ store_with (mark_by w) (date_by w k (drop 4 s)) → Printed b
   date-output b q = by-told (date_by w k (drop 4 s)) b told refl q
@@ -65,6 +66,7 @@ module _ (s : List ℕ) (k : Kind) (w : Way) (line : read_line s ≡ Gives (reco
   unfolding date_text
   by-refusal (Gives f) n (gives p) e q = let z : ◌≡◌ {A = ℕ} 1 0 = ap (back_one (λ (x : Stored). 0) 1) q in absurd (omega arith)
   by-refusal (Refused m) n (refuses h) e q = let same : n ≡ m = ap (back_by (λ (x : Stored). 0) (λ i. i)) q in rw same (answered (Refused m) e)
+  by-refusal (RefusedAt m i) n o e q = elim o [ ]
 
   pub refusal-output : (n : ℕ) → Refused n ≡ store_with (mark_by w) (date_by w k (drop 4 s)) → line_output s ≡ refused_text (letter k) n ++ line_end
   refusal-output n q = by-refusal (date_by w k (drop 4 s)) n told refl q

@@ -10,38 +10,38 @@ use borrow.Author.Rules.{rules}
 use Rattle.gap_report.proofs.figures.Statement.{statement}
 use Rattle.gap_report.proofs.figures.Tie as tie
 
-returns : tie.Need-returns
+returns : tie.Need-returns-then-out-lt-FIGURES
 returns c =
-    let s = c.before.before.before.before.before.before.args.b.now in numbers-short (figures s) c.before.before.before.before.before.before.args.out.now (figures_of (both s) (records_in s)) (figures-given s _ (sym (ap checked_as (sym c.before.before.checked.given.1) ∙ c.before.before.before.before.check.ensures))) (figures-long (both s) (records_in s)) c.if1.true
+    let s = c.args.b.now in numbers-short (figures s) c.args.out.now (figures_of (both s) (records_in s)) (figures-given s _ (sym (ap checked_as (sym c.in-Records.is) ∙ c.check-checked.ensures))) (figures-long (both s) (records_in s)) c.if-out-lt-FIGURES.true
 
-put-all-requires : tie.Need-put-all-requires
-put-all-requires c κs =
-    (sym (ap checked_as (sym c.before.before.before.checked.given.1) ∙ c.before.before.before.before.before.check.ensures), c.before.if1.false)
+put_all-requires : tie.Need-put_all-requires
+put_all-requires c κs =
+    (sym (ap checked_as (sym c.in-Records.is) ∙ c.check-checked.ensures), c.if-out-lt-FIGURES.false)
 
-returns-2 : tie.Need-returns-2
+returns-2 : tie.Need-returns-else-out-lt-FIGURES
 returns-2 c =
-    let s = c.before.before.before.before.before.before.before.before.before.args.b.now in numbers_fit (figures s) c.before.before.before.before.before.before.before.before.before.args.out.now (figures_of (both s) (records_in s)) (figures-given s _ (sym (ap checked_as (sym c.before.before.before.before.before.checked.given.1) ∙ c.before.before.before.before.before.before.before.check.ensures))) (figures-long (both s) (records_in s)) c.before.before.before.if1.false _ c.before.put_all_lem.ensures
+    let s = c.args.b.now in numbers_fit (figures s) c.args.out.now (figures_of (both s) (records_in s)) (figures-given s _ (sym (ap checked_as (sym c.in-Records.is) ∙ c.check-checked.ensures))) (figures-long (both s) (records_in s)) c.if-out-lt-FIGURES.false _ c.put_all.ensures
 
-returns-3 : tie.Need-returns-3
+returns-3 : tie.Need-returns-in-BadLength
 returns-3 c =
-    let s = c.before.before.before.before.args.b.now in numbers-refused (figures s) c.before.before.before.before.args.out.now bad_length (figures-refused s bad_length (sym (ap checked_as (sym c.enum_told.given.1) ∙ c.before.before.check.ensures)))
+    let s = c.args.b.now in numbers-refused (figures s) c.args.out.now bad_length (figures-refused s bad_length (sym (ap checked_as (sym c.in-BadLength.is) ∙ c.check-checked.ensures)))
 
-returns-4 : tie.Need-returns-4
+returns-4 : tie.Need-returns-in-BadVersion
 returns-4 c =
-    let s = c.before.before.before.before.args.b.now in numbers-refused (figures s) c.before.before.before.before.args.out.now bad_version (figures-refused s bad_version (sym (ap checked_as (sym c.enum-told2.given.1) ∙ c.before.before.check.ensures)))
+    let s = c.args.b.now in numbers-refused (figures s) c.args.out.now bad_version (figures-refused s bad_version (sym (ap checked_as (sym c.in-BadVersion.is) ∙ c.check-checked.ensures)))
 
-returns-5 : tie.Need-returns-5
+returns-5 : tie.Need-returns-in-BadRecord
 returns-5 c =
-    let s = c.before.before.before.before.before.args.b.now in numbers-bad (figures s) c.before.before.before.before.before.args.out.now bad_record _ (figures-bad s bad_record _ (sym (ap checked_as (sym c.before.checked2.given.1) ∙ c.before.before.before.check.ensures)))
+    let s = c.args.b.now in numbers-bad (figures s) c.args.out.now bad_record _ (figures-bad s bad_record _ (sym (ap checked_as (sym c.in-BadRecord.is) ∙ c.check-checked.ensures)))
 
-pub figures-spec : {M : Type 1} → statement M
-figures-spec =
+pub figures_spec : {M : Type 1} → statement M
+figures_spec =
     tie.close
     (tie.spec
     (λ c κs. search rules)
     (λ c. search rules)
     returns
-    put-all-requires
+    put_all-requires
     (λ c. search rules)
     (λ c. search rules)
     (λ c. search rules)

@@ -13,27 +13,27 @@ use Rattle.gap_report.proofs.print.Tie as tie
 
 build-requires : tie.Need-build-requires
 build-requires c κs =
-    (sym (ap checked_as (sym c.before.before.checked.given.1) ∙ c.before.before.before.before.check.ensures), c.before.before.before.before.before.before.before.requires)
+    (sym (ap checked_as (sym c.in-Records.is) ∙ c.check-checked.ensures), c.requires)
 
-returns : tie.Need-returns
+returns : tie.Need-returns-in-Records
 unfolding printed
 returns c =
-    rw (report-given c.before.before.before.before.before.before.before.before.before.before.args.b.now _ (sym (ap checked_as (sym c.before.before.before.before.before.checked.given.1) ∙ c.before.before.before.before.before.before.before.check.ensures))) c.before.before.build.ensures
+    rw (report-given c.args.b.now _ (sym (ap checked_as (sym c.in-Records.is) ∙ c.check-checked.ensures))) c.build.ensures
 
-returns-2 : tie.Need-returns-2
+returns-2 : tie.Need-returns-in-BadLength
 returns-2 c =
-    let s = c.before.before.before.before.before.before.before.before.before.args.b.now in named c.before.before.before.before.before.before.before.before.before.args.out.now {t = printed (report s)} (ap printed ((report-refused s bad_length).1 (sym (ap checked_as (sym c.before.before.before.before.enum_told.given.1) ∙ c.before.before.before.before.before.before.check.ensures)))) (omega arith) c.before.before.print-refused.ensures
+    let s = c.args.b.now in named c.args.out.now {t = printed (report s)} (ap printed ((report-refused s bad_length).1 (sym (ap checked_as (sym c.in-BadLength.is) ∙ c.check-checked.ensures)))) (omega arith) c.print_refused.ensures
 
-returns-3 : tie.Need-returns-3
+returns-3 : tie.Need-returns-in-BadVersion
 returns-3 c =
-    let s = c.before.before.before.before.before.before.before.before.before.args.b.now in named c.before.before.before.before.before.before.before.before.before.args.out.now {t = printed (report s)} (ap printed ((report-refused s bad_version).1 (sym (ap checked_as (sym c.before.before.before.before.enum-told2.given.1) ∙ c.before.before.before.before.before.before.check.ensures)))) (omega arith) c.before.before.print-refused2.ensures
+    let s = c.args.b.now in named c.args.out.now {t = printed (report s)} (ap printed ((report-refused s bad_version).1 (sym (ap checked_as (sym c.in-BadVersion.is) ∙ c.check-checked.ensures)))) (omega arith) c.print_refused-in-BadVersion.ensures
 
-returns-4 : tie.Need-returns-4
+returns-4 : tie.Need-returns-in-BadRecord
 returns-4 c =
-    let s = c.before.before.before.before.before.before.before.before.before.before.args.b.now in named c.before.before.before.before.before.before.before.before.before.before.args.out.now {t = printed (report s)} (ap printed ((report-bad s bad_record _).1 (sym (ap checked_as (sym c.before.before.before.before.before.checked2.given.1) ∙ c.before.before.before.before.before.before.before.check.ensures)))) (omega arith) c.before.before.print-refused-at.ensures
+    let s = c.args.b.now in named c.args.out.now {t = printed (report s)} (ap printed ((report-bad s bad_record _).1 (sym (ap checked_as (sym c.in-BadRecord.is) ∙ c.check-checked.ensures)))) (omega arith) c.print_refused_at.ensures
 
-pub print-spec : {M : Type 1} → statement M
-print-spec =
+pub print_spec : {M : Type 1} → statement M
+print_spec =
     tie.close
     (tie.spec
     (λ c κs. search rules)

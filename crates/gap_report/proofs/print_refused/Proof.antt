@@ -14,8 +14,8 @@ use Rattle.gap_report.proofs.print_refused.Tie as tie
 returns : tie.Need-returns
 unfolding printed
 returns c =
-    let l₀ = c.before.before.before.before.before.args.out.now in named l₀ {t = printed (Refused c.before.before.before.before.before.args.n)} refl (omega arith) (and_byte l₀ (bytes "refused" ++ spaced (decimal c.before.before.before.before.before.args.n)) c.before.before.Put-refused.ensures 10 (omega (arith, c.before.before.before.before.before.requires)))
+    let l₀ = c.args.out.now in named l₀ {t = printed (Refused c.args.n)} refl (omega arith) (and_byte l₀ (bytes "refused" ++ spaced (decimal c.args.n)) c.Put-refused.ensures 10 (omega (arith, c.requires)))
 
-pub print-refused-spec : {M : Type 1} → statement M
-print-refused-spec =
+pub print_refused_spec : {M : Type 1} → statement M
+print_refused_spec =
     tie.close (tie.spec (λ c κs. search rules) (λ c. search rules) (λ c. search rules) (λ c. search rules) returns)

@@ -12,16 +12,16 @@ use borrow.Author.Rules.{rules}
 use Rattle.gap_report.proofs.print_refused_at.Statement.{statement}
 use Rattle.gap_report.proofs.print_refused_at.Tie as tie
 
-same_length : tie.Need-same-length
+same_length : tie.Need-shape_of-out
 same_length c = simp length-set (search rules)
 
 returns : tie.Need-returns
 unfolding printed
 returns c =
-    let l₀ = c.before.before.before.before.before.before.before.before.before.args.out.now in let front = bytes "refused" ++ spaced (decimal c.before.before.before.before.before.before.before.before.before.args.n) in let place = spaced (decimal c.before.before.before.before.before.before.before.before.before.args.place) in let w = and-text l₀ front c.before.before.before.before.before.before.Put-refused.ensures place (omega (arith, c.before.before.before.before.before.before.before.before.before.requires)) c.before.before.put-number.ensures in named l₀ {t = printed (RefusedAt c.before.before.before.before.before.before.before.before.before.args.n c.before.before.before.before.before.before.before.before.before.args.place)} refl (omega arith) (and_byte l₀ (front ++ place) w 10 (omega (arith, c.before.before.before.before.before.before.before.before.before.requires)))
+    let l₀ = c.args.out.now in let front = bytes "refused" ++ spaced (decimal c.args.n) in let place = spaced (decimal c.args.place) in let w = and-text l₀ front c.Put-refused.ensures place (omega (arith, c.requires)) c.put_number.ensures in named l₀ {t = printed (RefusedAt c.args.n c.args.place)} refl (omega arith) (and_byte l₀ (front ++ place) w 10 (omega (arith, c.requires)))
 
-pub print-refused-at-spec : {M : Type 1} → statement M
-print-refused-at-spec =
+pub print_refused_at_spec : {M : Type 1} → statement M
+print_refused_at_spec =
     tie.close
     (tie.spec
     (λ c κs. search rules)

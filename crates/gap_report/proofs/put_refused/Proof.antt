@@ -11,10 +11,10 @@ use Rattle.gap_report.proofs.put_refused.Tie as tie
 
 returns : tie.Need-returns
 returns c =
-    and-text c.before.before.before.before.before.before.before.before.before.before.args.out.now {n = 7} {m = 7} (bytes "refused") ((refl, omega arith), c.before.before.before.before.before.before.copy.ensures) (spaced (decimal c.before.before.before.before.before.before.before.before.before.before.args.n)) (omega (arith, c.before.before.before.before.before.before.before.before.before.before.requires)) c.before.before.put-number.ensures
+    and-text c.args.out.now {n = 7} {m = 7} (bytes "refused") ((refl, omega arith), c.copy.ensures) (spaced (decimal c.args.n)) (omega (arith, c.requires)) c.put_number.ensures
 
-pub put-refused-spec : {M : Type 1} → statement M
-put-refused-spec =
+pub put_refused_spec : {M : Type 1} → statement M
+put_refused_spec =
     tie.close
     (tie.spec
     (λ c. search rules)

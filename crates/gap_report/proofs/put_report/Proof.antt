@@ -9,31 +9,31 @@ use borrow.Author.Rules.{rules}
 use Rattle.gap_report.proofs.put_report.Statement.{statement}
 use Rattle.gap_report.proofs.put_report.Tie as tie
 
-returns : tie.Need-returns
+returns : tie.Need-returns-then-out-length
 returns c =
-    let text = report_text (both c.before.before.before.before.before.before.args.b.now) (records_in c.before.before.before.before.before.before.args.b.now) in let s = wrote-short text c.before.before.before.before.before.before.args.out.now (omega (arith, c.before.before.build.ensures.0.0)) in (s.answered, s.holds)
+    let text = report_text (both c.args.b.now) (records_in c.args.b.now) in let s = wrote-short text c.args.out.now (omega (arith, c.build-length.ensures.0.0)) in (s.answered, s.holds)
 
-slice-aggregate-copy : tie.Need-slice-aggregate-copy
-slice-aggregate-copy c =
-    let text = report_text (both c.before.before.before.before.before.before.before.args.b.now) (records_in c.before.before.before.before.before.before.before.args.b.now) in rw (taken text _ c.before.before.before.build.new.1.1.0 c.before.before.before.build.result c.before.before.before.build.ensures.0.0 c.before.before.before.build.ensures.1) c.before.before.before.build.ensures.0.0
+slice_aggregate-copy : tie.Need-slice_bounds-copy-end
+slice_aggregate-copy c =
+    let text = report_text (both c.args.b.now) (records_in c.args.b.now) in rw (taken text _ c.build-length.new.out c.build-length.result c.build-length.ensures.0.0 c.build-length.ensures.1) c.build-length.ensures.0.0
 
 copy-requires : tie.Need-copy-requires
 copy-requires c κs =
-    let text = report_text (both c.before.before.before.before.before.before.before.before.args.b.now) (records_in c.before.before.before.before.before.before.before.before.args.b.now) in rw (taken text _ c.before.before.before.before.build.new.1.1.0 c.before.before.before.before.build.result c.before.before.before.before.build.ensures.0.0 c.before.before.before.before.build.ensures.1) (omega (arith, c.before.before.before.before.build.ensures.0.0))
+    let text = report_text (both c.args.b.now) (records_in c.args.b.now) in rw (taken text _ c.build-length.new.out c.build-length.result c.build-length.ensures.0.0 c.build-length.ensures.1) (omega (arith, c.build-length.ensures.0.0))
 
-returns-2 : tie.Need-returns-2
+returns-2 : tie.Need-returns
 returns-2 c =
-    let text = report_text (both c.before.before.before.before.before.before.before.before.before.before.before.args.b.now) (records_in c.before.before.before.before.before.before.before.before.before.before.before.args.b.now) in let w = wrote text c.before.before.before.before.before.before.before.before.before.before.before.args.out.now c.before.before.before.before.before.before.before.build.ensures.0.0 c.before.before.before.before.before.if1.false (copied text _ c.before.before.before.before.before.before.before.before.before.before.before.args.out.now _ (taken text _ c.before.before.before.before.before.before.before.build.new.1.1.0 c.before.before.before.before.before.before.before.build.result c.before.before.before.before.before.before.before.build.ensures.0.0 c.before.before.before.before.before.before.before.build.ensures.1) c.before.before.copy.ensures) in let s = wrote-whole w in (s.answered, s.holds)
+    let text = report_text (both c.args.b.now) (records_in c.args.b.now) in let w = wrote text c.args.out.now c.build-length.ensures.0.0 c.if-out-length.false (copied text _ c.args.out.now _ (taken text _ c.build-length.new.out c.build-length.result c.build-length.ensures.0.0 c.build-length.ensures.1) c.copy.ensures) in let s = wrote-whole w in (s.answered, s.holds)
 
-pub put-report-spec : {M : Type 1} → statement M
-put-report-spec =
+pub put_report_spec : {M : Type 1} → statement M
+put_report_spec =
     tie.close
     (tie.spec
     (λ c. search rules)
     (λ c κs. search rules)
     returns
     (λ c. search rules)
-    slice-aggregate-copy
+    slice_aggregate-copy
     copy-requires
     (λ c. search rules)
     returns-2)

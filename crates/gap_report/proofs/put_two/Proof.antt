@@ -10,10 +10,10 @@ use Rattle.gap_report.proofs.put_two.Tie as tie
 
 returns : tie.Need-returns
 returns c =
-    let s = c.before.before.before.before.before.before.before.before.before.before.args.b.now in let k = kind_of c.before.before.before.before.before.before.before.before.before.before.args.first in let j = kind_of c.before.before.before.before.before.before.before.before.before.before.args.second in and-text c.before.before.before.before.before.before.before.before.before.before.args.out.now (kind_line k (of_book k s)) c.before.before.before.before.before.before.put-kind.ensures (kind_line j (of_book j s)) (omega (arith, c.before.before.before.before.before.before.before.before.before.before.requires.1)) c.before.before.put-kind2.ensures
+    let s = c.args.b.now in let k = kind_of c.args.first in let j = kind_of c.args.second in and-text c.args.out.now (kind_line k (of_book k s)) c.put_kind-at.ensures (kind_line j (of_book j s)) (omega (arith, c.requires.1)) c.put_kind.ensures
 
-pub put-two-spec : {M : Type 1} → statement M
-put-two-spec =
+pub put_two_spec : {M : Type 1} → statement M
+put_two_spec =
     tie.close
     (tie.spec
     (λ c κs. search rules)

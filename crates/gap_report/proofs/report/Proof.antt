@@ -9,33 +9,33 @@ use borrow.Author.Rules.{rules}
 use Rattle.gap_report.proofs.report.Statement.{statement}
 use Rattle.gap_report.proofs.report.Tie as tie
 
-put-report-requires : tie.Need-put-report-requires
-put-report-requires c κs =
-    sym (ap checked_as (sym c.before.before.checked.given.1) ∙ c.before.before.before.before.check.ensures)
+put_report-requires : tie.Need-put_report-requires
+put_report-requires c κs =
+    sym (ap checked_as (sym c.in-Records.is) ∙ c.check-checked.ensures)
 
-returns : tie.Need-returns
+returns : tie.Need-returns-in-Records
 returns c =
-    rw (report-given c.before.before.before.before.before.before.before.before.before.before.args.b.now _ (sym (ap checked_as (sym c.before.before.before.before.before.checked.given.1) ∙ c.before.before.before.before.before.before.before.check.ensures))) c.before.before.put-report.ensures
+    rw (report-given c.args.b.now _ (sym (ap checked_as (sym c.in-Records.is) ∙ c.check-checked.ensures))) c.put_report.ensures
 
-returns-2 : tie.Need-returns-2
+returns-2 : tie.Need-returns-in-BadLength
 returns-2 c =
-    let s = c.before.before.before.before.before.args.b.now in text-refused (report s) c.before.before.before.before.before.args.out.now bad_length ((report-refused s bad_length).1 (sym (ap checked_as (sym c.enum_told.given.1) ∙ c.before.before.check.ensures)))
+    let s = c.args.b.now in text-refused (report s) c.args.out.now bad_length ((report-refused s bad_length).1 (sym (ap checked_as (sym c.in-BadLength.is) ∙ c.check-checked.ensures)))
 
-returns-3 : tie.Need-returns-3
+returns-3 : tie.Need-returns-in-BadVersion
 returns-3 c =
-    let s = c.before.before.before.before.before.args.b.now in text-refused (report s) c.before.before.before.before.before.args.out.now bad_version ((report-refused s bad_version).1 (sym (ap checked_as (sym c.enum-told2.given.1) ∙ c.before.before.check.ensures)))
+    let s = c.args.b.now in text-refused (report s) c.args.out.now bad_version ((report-refused s bad_version).1 (sym (ap checked_as (sym c.in-BadVersion.is) ∙ c.check-checked.ensures)))
 
-returns-4 : tie.Need-returns-4
+returns-4 : tie.Need-returns-in-BadRecord
 returns-4 c =
-    let s = c.before.before.before.before.before.before.args.b.now in text-bad (report s) c.before.before.before.before.before.before.args.out.now bad_record _ ((report-bad s bad_record _).1 (sym (ap checked_as (sym c.before.checked2.given.1) ∙ c.before.before.before.check.ensures)))
+    let s = c.args.b.now in text-bad (report s) c.args.out.now bad_record _ ((report-bad s bad_record _).1 (sym (ap checked_as (sym c.in-BadRecord.is) ∙ c.check-checked.ensures)))
 
-pub report-spec : {M : Type 1} → statement M
-report-spec =
+pub report_spec : {M : Type 1} → statement M
+report_spec =
     tie.close
     (tie.spec
     (λ c κs. search rules)
     (λ c. search rules)
-    put-report-requires
+    put_report-requires
     (λ c. search rules)
     (λ c. search rules)
     (λ c. search rules)

@@ -6,29 +6,29 @@ use borrow.Author.Rules.{rules}
 use Rattle.league_table.proofs.check.Statement.{statement}
 use Rattle.league_table.proofs.check.Tie as tie
 
-count-own-requires : tie.Need-count-own-requires
-count-own-requires c κs =
-    sym (ap checked_as (sym c.before.checked.given.1) ∙ c.before.before.before.entries-of.ensures)
+count_own-requires : tie.Need-count_own-requires
+count_own-requires c κs =
+    sym (ap checked_as (sym c.in-Entries.is) ∙ c.entries_of-checked.ensures)
 
-returns-2 : tie.Need-returns-2
+returns-2 : tie.Need-returns-in-BadLength
 returns-2 c =
-    check-not c.before.before.before.before.args.b.now (ap checked_as (sym c.enum_told.given.1) ∙ c.before.before.entries-of.ensures) c.before.before.before.before.args.league
+    check-not c.args.b.now (ap checked_as (sym c.in-BadLength.is) ∙ c.entries_of-checked.ensures) c.args.league
 
-returns-3 : tie.Need-returns-3
+returns-3 : tie.Need-returns-in-BadVersion
 returns-3 c =
-    check-not c.before.before.before.before.args.b.now (ap checked_as (sym c.enum-told2.given.1) ∙ c.before.before.entries-of.ensures) c.before.before.before.before.args.league
+    check-not c.args.b.now (ap checked_as (sym c.in-BadVersion.is) ∙ c.entries_of-checked.ensures) c.args.league
 
-returns-4 : tie.Need-returns-4
+returns-4 : tie.Need-returns-in-BadEntry
 returns-4 c =
-    check-not c.before.before.before.before.args.b.now (ap checked_as (sym c.enum-told3.given.1) ∙ c.before.before.entries-of.ensures) c.before.before.before.before.args.league
+    check-not c.args.b.now (ap checked_as (sym c.in-BadEntry.is) ∙ c.entries_of-checked.ensures) c.args.league
 
-pub check-spec : {M : Type 1} → statement M
-check-spec =
+pub check_spec : {M : Type 1} → statement M
+check_spec =
     tie.close
     (tie.spec
     (λ c κs. search rules)
     (λ c. search rules)
-    count-own-requires
+    count_own-requires
     (λ c. search rules)
     (λ c. search rules)
     (λ c. search rules)

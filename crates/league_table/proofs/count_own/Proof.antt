@@ -7,15 +7,15 @@ use Rattle.league_table.proofs.count_own.Tie as tie
 
 count-requires : tie.Need-count-requires
 count-requires c κs =
-    let a = c.before.before.before.args in (room a.b.now a.n c.before.before.before.requires, order a.b.now a.n c.before.before.before.requires)
+    let a = c.args in (room a.b.now a.n c.requires, order a.b.now a.n c.requires)
 
-returns : tie.Need-returns
+returns : tie.Need-returns-then-is_league
 returns c =
-    let a = c.before.before.before.before.args in counts-own a.b.now a.n c.before.before.before.before.requires a.league (sym c.before.before.is-league.ensures ∙ c.before.if1.true) c.count.ensures
+    let a = c.args in counts-own a.b.now a.n c.requires a.league (sym c.is_league.ensures ∙ c.if-is_league.true) c.count.ensures
 
-returns-2 : tie.Need-returns-2
+returns-2 : tie.Need-returns
 returns-2 c =
-    let a = c.before.before.before.args in no-league a.b.now a.n c.before.before.before.requires a.league (sym c.before.is-league.ensures ∙ c.if1.false)
+    let a = c.args in no-league a.b.now a.n c.requires a.league (sym c.is_league.ensures ∙ c.if-is_league.false)
 
-pub count-own-spec : {M : Type 1} → statement M
-count-own-spec = tie.close (tie.spec (λ c κs. search rules) count-requires returns returns-2)
+pub count_own_spec : {M : Type 1} → statement M
+count_own_spec = tie.close (tie.spec (λ c κs. search rules) count-requires returns returns-2)

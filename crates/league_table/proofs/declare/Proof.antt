@@ -6,29 +6,29 @@ use borrow.Author.Rules.{rules}
 use Rattle.league_table.proofs.declare.Statement.{statement}
 use Rattle.league_table.proofs.declare.Tie as tie
 
-declare-own-requires : tie.Need-declare-own-requires
-declare-own-requires c κs =
-    sym (ap checked_as (sym c.before.before.checked.given.1) ∙ c.before.before.before.before.entries-of.ensures)
+declare_own-requires : tie.Need-declare_own-requires
+declare_own-requires c κs =
+    sym (ap checked_as (sym c.in-Entries.is) ∙ c.entries_of-checked.ensures)
 
-returns-2 : tie.Need-returns-2
+returns-2 : tie.Need-returns-in-BadLength
 returns-2 c =
-    declare-not c.before.before.before.before.before.args.b.now (ap checked_as (sym c.enum_told.given.1) ∙ c.before.before.entries-of.ensures) c.before.before.before.before.before.args.league c.before.before.before.before.before.args.field c.before.before.before.before.before.args.code
+    declare-not c.args.b.now (ap checked_as (sym c.in-BadLength.is) ∙ c.entries_of-checked.ensures) c.args.league c.args.field c.args.code
 
-returns-3 : tie.Need-returns-3
+returns-3 : tie.Need-returns-in-BadVersion
 returns-3 c =
-    declare-not c.before.before.before.before.before.args.b.now (ap checked_as (sym c.enum-told2.given.1) ∙ c.before.before.entries-of.ensures) c.before.before.before.before.before.args.league c.before.before.before.before.before.args.field c.before.before.before.before.before.args.code
+    declare-not c.args.b.now (ap checked_as (sym c.in-BadVersion.is) ∙ c.entries_of-checked.ensures) c.args.league c.args.field c.args.code
 
-returns-4 : tie.Need-returns-4
+returns-4 : tie.Need-returns-in-BadEntry
 returns-4 c =
-    declare-not c.before.before.before.before.before.args.b.now (ap checked_as (sym c.enum-told3.given.1) ∙ c.before.before.entries-of.ensures) c.before.before.before.before.before.args.league c.before.before.before.before.before.args.field c.before.before.before.before.before.args.code
+    declare-not c.args.b.now (ap checked_as (sym c.in-BadEntry.is) ∙ c.entries_of-checked.ensures) c.args.league c.args.field c.args.code
 
-pub declare-spec : {M : Type 1} → statement M
-declare-spec =
+pub declare_spec : {M : Type 1} → statement M
+declare_spec =
     tie.close
     (tie.spec
     (λ c κs. search rules)
     (λ c. search rules)
-    declare-own-requires
+    declare_own-requires
     (λ c. search rules)
     (λ c. search rules)
     (λ c. search rules)

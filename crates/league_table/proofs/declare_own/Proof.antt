@@ -9,31 +9,31 @@ use borrow.Author.Rules.{rules}
 use Rattle.league_table.proofs.declare_own.Statement.{statement}
 use Rattle.league_table.proofs.declare_own.Tie as tie
 
-put-own-requires : tie.Need-put-own-requires
-put-own-requires c κs =
-    let a = c.before.before.before.before.before.before.before.before.before.args in let h = sym c.before.before.before.before.before.before.before.names-field.ensures ∙ c.before.before.before.before.before.before.if1.true in (c.before.before.before.before.before.before.before.before.before.requires, (left (is_league a.league) (is_field a.field) h, rw c.key-for.ensures (call-own a.league a.field h)))
+put_own-requires : tie.Need-put_own-requires
+put_own-requires c κs =
+    let a = c.args in let h = sym c.names_field.ensures ∙ c.if-names_field.true in (c.requires, (left (is_league a.league) (is_field a.field) h, rw c.key_for.ensures (call-own a.league a.field h)))
 
-returns : tie.Need-returns
+returns : tie.Need-returns-in-Kind
 returns c =
-    let a = c.before.before.before.before.before.before.before.before.before.before.before.before.args in declare-so a.b.now a.n c.before.before.before.before.before.before.before.before.before.before.before.before.requires a.league a.field a.code (sym c.before.before.before.before.before.before.before.before.before.before.names-field.ensures ∙ c.before.before.before.before.before.before.before.before.before.if1.true) (ap allowed_as (sym c.before.before.before.before.before.before.coded.given.1) ∙ c.before.before.before.before.before.before.before.before.declared-kind.ensures) (rw c.before.before.before.key-for.ensures at c.before.before.put-own.ensures.0) (rw c.before.before.before.key-for.ensures at c.before.before.put-own.ensures.1)
+    let a = c.args in declare-so a.b.now a.n c.requires a.league a.field a.code (sym c.names_field.ensures ∙ c.if-names_field.true) (ap allowed_as (sym c.in-Kind.is) ∙ c.declared_kind-coded.ensures) (rw c.key_for.ensures at c.put_own.ensures.0) (rw c.key_for.ensures at c.put_own.ensures.1)
 
-returns-2 : tie.Need-returns-2
+returns-2 : tie.Need-returns-in-None
 returns-2 c =
-    let a = c.before.before.before.before.before.before.args in declare-no-kind a.b.now a.n c.before.before.before.before.before.before.requires a.league a.field a.code (sym c.before.before.before.before.names-field.ensures ∙ c.before.before.before.if1.true) (ap allowed_as (sym c.enum_told.given.1) ∙ c.before.before.declared-kind.ensures)
+    let a = c.args in declare-no-kind a.b.now a.n c.requires a.league a.field a.code (sym c.names_field.ensures ∙ c.if-names_field.true) (ap allowed_as (sym c.in-None.is) ∙ c.declared_kind-coded.ensures)
 
-returns-3 : tie.Need-returns-3
+returns-3 : tie.Need-returns-else-names_field
 returns-3 c =
-    let a = c.before.before.before.args in declare-no-field a.b.now a.n c.before.before.before.requires a.league a.field a.code (sym c.before.names-field.ensures ∙ c.if1.false)
+    let a = c.args in declare-no-field a.b.now a.n c.requires a.league a.field a.code (sym c.names_field.ensures ∙ c.if-names_field.false)
 
-pub declare-own-spec : {M : Type 1} → statement M
-declare-own-spec =
+pub declare_own_spec : {M : Type 1} → statement M
+declare_own_spec =
     tie.close
     (tie.spec
     (λ c κs. search rules)
     (λ c κs. search rules)
     (λ c. search rules)
     (λ c κs. search rules)
-    put-own-requires
+    put_own-requires
     (λ c. search rules)
     (λ c. search rules)
     returns

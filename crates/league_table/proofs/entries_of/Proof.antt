@@ -12,33 +12,33 @@ use Rattle.league_table.proofs.entries_of.Tie as tie
 
 shared-requires : tie.Need-shared-requires
 shared-requires c κs =
-    let s = c.before.before.before.before.before.args.b.now in let e = sym (ap checked_as (sym c.before.checked.given.1) ∙ c.before.before.before.check-of.ensures) in (record { fits = check-fits table2 sensible2 s _ e; narrow = omega arith }, (check-holds table2 sensible2 s _ e).order)
+    let s = c.args.b.now in let e = sym (ap checked_as (sym c.in-Entries.is) ∙ c.check_of-checked.ensures) in (record { fits = check-fits table2 sensible2 s _ e; narrow = omega arith }, (check-holds table2 sensible2 s _ e).order)
 
-returns : tie.Need-returns
+returns : tie.Need-returns-then-shared
 returns c =
-    sym (counts c.before.before.before.before.before.before.before.args.b.now _ (sym (ap checked_as (sym c.before.before.before.checked.given.1) ∙ c.before.before.before.before.before.check-of.ensures)) (sym c.if1.true ∙ c.before.shared.ensures))
+    sym (counts c.args.b.now _ (sym (ap checked_as (sym c.in-Entries.is) ∙ c.check_of-checked.ensures)) (sym c.if-shared.true ∙ c.shared.ensures))
 
-returns-2 : tie.Need-returns-2
+returns-2 : tie.Need-returns-else-shared
 returns-2 c =
-    sym (counts-not c.before.before.before.before.before.before.before.args.b.now _ (sym (ap checked_as (sym c.before.before.before.checked.given.1) ∙ c.before.before.before.before.before.check-of.ensures)) (sym c.if1.false ∙ c.before.shared.ensures))
+    sym (counts-not c.args.b.now _ (sym (ap checked_as (sym c.in-Entries.is) ∙ c.check_of-checked.ensures)) (sym c.if-shared.false ∙ c.shared.ensures))
 
-returns-3 : tie.Need-returns-3
+returns-3 : tie.Need-returns-in-BadLength
 unfolding counted
 returns-3 c =
-    sym (ap counted (refuses c.before.before.before.before.args.b.now _ (sym (ap checked_as (sym c.enum_told.given.1) ∙ c.before.before.check-of.ensures))))
+    sym (ap counted (refuses c.args.b.now _ (sym (ap checked_as (sym c.in-BadLength.is) ∙ c.check_of-checked.ensures))))
 
-returns-4 : tie.Need-returns-4
+returns-4 : tie.Need-returns-in-BadVersion
 unfolding counted
 returns-4 c =
-    sym (ap counted (refuses c.before.before.before.before.args.b.now _ (sym (ap checked_as (sym c.enum-told2.given.1) ∙ c.before.before.check-of.ensures))))
+    sym (ap counted (refuses c.args.b.now _ (sym (ap checked_as (sym c.in-BadVersion.is) ∙ c.check_of-checked.ensures))))
 
-returns-5 : tie.Need-returns-5
+returns-5 : tie.Need-returns-in-BadEntry
 unfolding counted
 returns-5 c =
-    sym (ap counted (refuses c.before.before.before.before.args.b.now _ (sym (ap checked_as (sym c.enum-told3.given.1) ∙ c.before.before.check-of.ensures))))
+    sym (ap counted (refuses c.args.b.now _ (sym (ap checked_as (sym c.in-BadEntry.is) ∙ c.check_of-checked.ensures))))
 
-pub entries-of-spec : {M : Type 1} → statement M
-entries-of-spec =
+pub entries_of_spec : {M : Type 1} → statement M
+entries_of_spec =
     tie.close
     (tie.spec
     (λ c κs. search rules)

@@ -11,42 +11,42 @@ use Rattle.league_table.proofs.entry_own.Tie as tie
 
 count-requires : tie.Need-count-requires
 count-requires c κs =
-    let a = c.before.before.before.args in (room a.b.now a.n c.before.before.before.requires, order a.b.now a.n c.before.before.before.requires)
+    let a = c.args in (room a.b.now a.n c.requires, order a.b.now a.n c.requires)
 
 start-requires : tie.Need-start-requires
 start-requires c κs =
-    let a = c.before.before.before.before.before.args in (room a.b.now a.n c.before.before.before.before.before.requires, order a.b.now a.n c.before.before.before.before.before.requires)
+    let a = c.args in (room a.b.now a.n c.requires, order a.b.now a.n c.requires)
 
-add_at : tie.Need-overflow-add-at
+add_at : tie.Need-overflow_add-at
 add_at c =
-    let a = c.before.before.before.before.before.before.args in omega (arith, (room a.b.now a.n c.before.before.before.before.before.before.requires).fits, c.start.ensures, inside a.b.now a.n c.before.before.before.before.before.before.requires a.league a.place (sym c.before.before.before.before.is-league.ensures ∙ c.before.before.before.if1.true) (omega (arith, c.before.before.count.ensures, c.before.if2.true)))
+    let a = c.args in omega (arith, (room a.b.now a.n c.requires).fits, c.start.ensures, inside a.b.now a.n c.requires a.league a.place (sym c.is_league.ensures ∙ c.if-is_league.true) (omega (arith, c.count.ensures, c.if-place-count.true)))
 
-mul_at : tie.Need-overflow-mul-at
+mul_at : tie.Need-overflow_mul-at
 mul_at c =
-    let a = c.before.before.before.before.before.before.args in omega (arith, (room a.b.now a.n c.before.before.before.before.before.before.requires).fits, c.start.ensures, inside a.b.now a.n c.before.before.before.before.before.before.requires a.league a.place (sym c.before.before.before.before.is-league.ensures ∙ c.before.before.before.if1.true) (omega (arith, c.before.before.count.ensures, c.before.if2.true)))
+    let a = c.args in omega (arith, (room a.b.now a.n c.requires).fits, c.start.ensures, inside a.b.now a.n c.requires a.league a.place (sym c.is_league.ensures ∙ c.if-is_league.true) (omega (arith, c.count.ensures, c.if-place-count.true)))
 
-add-at-2 : tie.Need-overflow-add-at-2
+add-at-2 : tie.Need-overflow_add-at-then-place-count
 add-at-2 c =
-    let a = c.before.before.before.before.before.before.args in omega (arith, (room a.b.now a.n c.before.before.before.before.before.before.requires).fits, c.start.ensures, inside a.b.now a.n c.before.before.before.before.before.before.requires a.league a.place (sym c.before.before.before.before.is-league.ensures ∙ c.before.before.before.if1.true) (omega (arith, c.before.before.count.ensures, c.before.if2.true)))
+    let a = c.args in omega (arith, (room a.b.now a.n c.requires).fits, c.start.ensures, inside a.b.now a.n c.requires a.league a.place (sym c.is_league.ensures ∙ c.if-is_league.true) (omega (arith, c.count.ensures, c.if-place-count.true)))
 
-declared-at-requires : tie.Need-declared-at-requires
-declared-at-requires c κs =
-    let a = c.before.before.before.before.before.before.args in ((omega (arith, (room a.b.now a.n c.before.before.before.before.before.before.requires).fits, c.start.ensures, inside a.b.now a.n c.before.before.before.before.before.before.requires a.league a.place (sym c.before.before.before.before.is-league.ensures ∙ c.before.before.before.if1.true) (omega (arith, c.before.before.count.ensures, c.before.if2.true))), omega arith), rw c.start.ensures (it-declares a.b.now a.n c.before.before.before.before.before.before.requires a.league a.place (sym c.before.before.before.before.is-league.ensures ∙ c.before.before.before.if1.true) (omega (arith, c.before.before.count.ensures, c.before.if2.true))))
+declared_at-requires : tie.Need-declared_at-requires
+declared_at-requires c κs =
+    let a = c.args in ((omega (arith, (room a.b.now a.n c.requires).fits, c.start.ensures, inside a.b.now a.n c.requires a.league a.place (sym c.is_league.ensures ∙ c.if-is_league.true) (omega (arith, c.count.ensures, c.if-place-count.true))), omega arith), rw c.start.ensures (it-declares a.b.now a.n c.requires a.league a.place (sym c.is_league.ensures ∙ c.if-is_league.true) (omega (arith, c.count.ensures, c.if-place-count.true))))
 
-returns : tie.Need-returns
+returns : tie.Need-returns-then-place-count
 returns c =
-    let a = c.before.before.before.before.before.before.before.before.args in c.without-league.ensures ∙ ap (λ x. x then λ (d : Declared). Gives (own_declared d)) (rw c.before.before.start.ensures at c.before.declared-at.ensures) ∙ entry-is a.b.now a.n c.before.before.before.before.before.before.before.before.requires a.league a.place (sym c.before.before.before.before.before.before.is-league.ensures ∙ c.before.before.before.before.before.if1.true) (omega (arith, c.before.before.before.before.count.ensures, c.before.before.before.if2.true))
+    let a = c.args in c.without_league.ensures ∙ ap (λ x. x then λ (d : Declared). Gives (own_declared d)) (rw c.start.ensures at c.declared_at.ensures) ∙ entry-is a.b.now a.n c.requires a.league a.place (sym c.is_league.ensures ∙ c.if-is_league.true) (omega (arith, c.count.ensures, c.if-place-count.true))
 
-returns-2 : tie.Need-returns-2
+returns-2 : tie.Need-returns-then-is_league
 returns-2 c =
-    let a = c.before.before.before.before.before.args in entry_past a.b.now a.n c.before.before.before.before.before.requires a.league a.place (sym c.before.before.before.is-league.ensures ∙ c.before.before.if1.true) (omega (arith, c.before.count.ensures, c.if2.false))
+    let a = c.args in entry_past a.b.now a.n c.requires a.league a.place (sym c.is_league.ensures ∙ c.if-is_league.true) (omega (arith, c.count.ensures, c.if-place-count.false))
 
-returns-3 : tie.Need-returns-3
+returns-3 : tie.Need-returns
 returns-3 c =
-    let a = c.before.before.before.args in entry-no-league a.b.now a.n c.before.before.before.requires a.league a.place (sym c.before.is-league.ensures ∙ c.if1.false)
+    let a = c.args in entry-no-league a.b.now a.n c.requires a.league a.place (sym c.is_league.ensures ∙ c.if-is_league.false)
 
-pub entry-own-spec : {M : Type 1} → statement M
-entry-own-spec =
+pub entry_own_spec : {M : Type 1} → statement M
+entry_own_spec =
     tie.close
     (tie.spec
     (λ c κs. search rules)
@@ -55,7 +55,7 @@ entry-own-spec =
     add_at
     mul_at
     add-at-2
-    declared-at-requires
+    declared_at-requires
     (λ c κs. search rules)
     returns
     returns-2

@@ -11,22 +11,22 @@ use Rattle.league_table.proofs.look_own.Tie as tie
 
 look-requires : tie.Need-look-requires
 look-requires c κs =
-    let a = c.before.before.before.before.before.before.before.before.args in (room a.b.now a.n c.before.before.before.before.before.before.before.before.requires, (ordered a.b.now a.n c.before.before.before.before.before.before.before.before.requires, kind-allowed guesses a.game _ (sym (ap allowed_as (sym c.before.before.coded.given.1) ∙ c.before.before.before.before.game-kind.ensures))))
+    let a = c.args in (room a.b.now a.n c.requires, (ordered a.b.now a.n c.requires, kind-allowed guesses a.game _ (sym (ap allowed_as (sym c.in-Kind.is) ∙ c.game_kind-coded.ensures))))
 
-returns : tie.Need-returns
+returns : tie.Need-returns-in-Kind
 returns c =
-    let a = c.before.before.before.before.before.before.before.before.before.args in (rw (to_z-of_z c.before.before.before.before.before.before.before.before.before.ranges.number, c.before.key-for.ensures) at c.look.ensures) ∙ ap in_bits (sym (by-entry a.b.now a.n c.before.before.before.before.before.before.before.before.before.requires a.league a.field a.game a.number (sym c.before.before.before.before.before.before.before.names-field.ensures ∙ c.before.before.before.before.before.before.if1.true) (ap allowed_as (sym c.before.before.before.coded.given.1) ∙ c.before.before.before.before.before.game-kind.ensures)))
+    let a = c.args in (rw (to_z-of_z c.ranges.number, c.key_for-key.ensures) at c.look.ensures) ∙ ap in_bits (sym (by-entry a.b.now a.n c.requires a.league a.field a.game a.number (sym c.names_field.ensures ∙ c.if-names_field.true) (ap allowed_as (sym c.in-Kind.is) ∙ c.game_kind-coded.ensures)))
 
-returns-2 : tie.Need-returns-2
+returns-2 : tie.Need-returns-in-None
 returns-2 c =
-    let a = c.before.before.before.before.before.before.args in ap in_bits (sym (look-no-game a.b.now a.n c.before.before.before.before.before.before.requires a.league a.field a.game a.number (sym c.before.before.before.before.names-field.ensures ∙ c.before.before.before.if1.true) (ap allowed_as (sym c.enum_told.given.1) ∙ c.before.before.game-kind.ensures)))
+    let a = c.args in ap in_bits (sym (look-no-game a.b.now a.n c.requires a.league a.field a.game a.number (sym c.names_field.ensures ∙ c.if-names_field.true) (ap allowed_as (sym c.in-None.is) ∙ c.game_kind-coded.ensures)))
 
-returns-3 : tie.Need-returns-3
+returns-3 : tie.Need-returns-else-names_field
 returns-3 c =
-    let a = c.before.before.before.args in ap in_bits (sym (look-no-field a.b.now a.n c.before.before.before.requires a.league a.field a.game a.number (sym c.before.names-field.ensures ∙ c.if1.false)))
+    let a = c.args in ap in_bits (sym (look-no-field a.b.now a.n c.requires a.league a.field a.game a.number (sym c.names_field.ensures ∙ c.if-names_field.false)))
 
-pub look-own-spec : {M : Type 1} → statement M
-look-own-spec =
+pub look_own_spec : {M : Type 1} → statement M
+look_own_spec =
     tie.close
     (tie.spec
     (λ c κs. search rules)

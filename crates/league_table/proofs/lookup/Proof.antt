@@ -7,33 +7,33 @@ use borrow.Author.Rules.{rules}
 use Rattle.league_table.proofs.lookup.Statement.{statement}
 use Rattle.league_table.proofs.lookup.Tie as tie
 
-look-own-requires : tie.Need-look-own-requires
-look-own-requires c κs =
-    sym (ap checked_as (sym c.before.checked.given.1) ∙ c.before.before.before.entries-of.ensures)
+look_own-requires : tie.Need-look_own-requires
+look_own-requires c κs =
+    sym (ap checked_as (sym c.in-Entries.is) ∙ c.entries_of-checked.ensures)
 
-returns : tie.Need-returns
+returns : tie.Need-returns-in-Entries
 returns c =
-    rw (to_z-of_z c.before.before.before.before.before.before.ranges.number) at c.look-own.ensures
+    rw (to_z-of_z c.ranges.number) at c.look_own.ensures
 
-returns-2 : tie.Need-returns-2
+returns-2 : tie.Need-returns-in-BadLength
 returns-2 c =
-    ap in_bits (sym (look-not c.before.before.before.before.args.b.now (ap checked_as (sym c.enum_told.given.1) ∙ c.before.before.entries-of.ensures) c.before.before.before.before.args.league c.before.before.before.before.args.field c.before.before.before.before.args.game c.before.before.before.before.args.number))
+    ap in_bits (sym (look-not c.args.b.now (ap checked_as (sym c.in-BadLength.is) ∙ c.entries_of-checked.ensures) c.args.league c.args.field c.args.game c.args.number))
 
-returns-3 : tie.Need-returns-3
+returns-3 : tie.Need-returns-in-BadVersion
 returns-3 c =
-    ap in_bits (sym (look-not c.before.before.before.before.args.b.now (ap checked_as (sym c.enum-told2.given.1) ∙ c.before.before.entries-of.ensures) c.before.before.before.before.args.league c.before.before.before.before.args.field c.before.before.before.before.args.game c.before.before.before.before.args.number))
+    ap in_bits (sym (look-not c.args.b.now (ap checked_as (sym c.in-BadVersion.is) ∙ c.entries_of-checked.ensures) c.args.league c.args.field c.args.game c.args.number))
 
-returns-4 : tie.Need-returns-4
+returns-4 : tie.Need-returns-in-BadEntry
 returns-4 c =
-    ap in_bits (sym (look-not c.before.before.before.before.args.b.now (ap checked_as (sym c.enum-told3.given.1) ∙ c.before.before.entries-of.ensures) c.before.before.before.before.args.league c.before.before.before.before.args.field c.before.before.before.before.args.game c.before.before.before.before.args.number))
+    ap in_bits (sym (look-not c.args.b.now (ap checked_as (sym c.in-BadEntry.is) ∙ c.entries_of-checked.ensures) c.args.league c.args.field c.args.game c.args.number))
 
-pub lookup-spec : {M : Type 1} → statement M
-lookup-spec =
+pub lookup_spec : {M : Type 1} → statement M
+lookup_spec =
     tie.close
     (tie.spec
     (λ c κs. search rules)
     (λ c. search rules)
-    look-own-requires
+    look_own-requires
     (λ c. search rules)
     (λ c. search rules)
     (λ c. search rules)

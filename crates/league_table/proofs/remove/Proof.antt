@@ -6,29 +6,29 @@ use borrow.Author.Rules.{rules}
 use Rattle.league_table.proofs.remove.Statement.{statement}
 use Rattle.league_table.proofs.remove.Tie as tie
 
-remove-own-requires : tie.Need-remove-own-requires
-remove-own-requires c κs =
-    sym (ap checked_as (sym c.before.before.checked.given.1) ∙ c.before.before.before.before.entries-of.ensures)
+remove_own-requires : tie.Need-remove_own-requires
+remove_own-requires c κs =
+    sym (ap checked_as (sym c.in-Entries.is) ∙ c.entries_of-checked.ensures)
 
-returns-2 : tie.Need-returns-2
+returns-2 : tie.Need-returns-in-BadLength
 returns-2 c =
-    remove-not c.before.before.before.before.before.args.b.now (ap checked_as (sym c.enum_told.given.1) ∙ c.before.before.entries-of.ensures) c.before.before.before.before.before.args.league c.before.before.before.before.before.args.field
+    remove-not c.args.b.now (ap checked_as (sym c.in-BadLength.is) ∙ c.entries_of-checked.ensures) c.args.league c.args.field
 
-returns-3 : tie.Need-returns-3
+returns-3 : tie.Need-returns-in-BadVersion
 returns-3 c =
-    remove-not c.before.before.before.before.before.args.b.now (ap checked_as (sym c.enum-told2.given.1) ∙ c.before.before.entries-of.ensures) c.before.before.before.before.before.args.league c.before.before.before.before.before.args.field
+    remove-not c.args.b.now (ap checked_as (sym c.in-BadVersion.is) ∙ c.entries_of-checked.ensures) c.args.league c.args.field
 
-returns-4 : tie.Need-returns-4
+returns-4 : tie.Need-returns-in-BadEntry
 returns-4 c =
-    remove-not c.before.before.before.before.before.args.b.now (ap checked_as (sym c.enum-told3.given.1) ∙ c.before.before.entries-of.ensures) c.before.before.before.before.before.args.league c.before.before.before.before.before.args.field
+    remove-not c.args.b.now (ap checked_as (sym c.in-BadEntry.is) ∙ c.entries_of-checked.ensures) c.args.league c.args.field
 
-pub remove-spec : {M : Type 1} → statement M
-remove-spec =
+pub remove_spec : {M : Type 1} → statement M
+remove_spec =
     tie.close
     (tie.spec
     (λ c κs. search rules)
     (λ c. search rules)
-    remove-own-requires
+    remove_own-requires
     (λ c. search rules)
     (λ c. search rules)
     (λ c. search rules)

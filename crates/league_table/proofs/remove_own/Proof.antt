@@ -6,25 +6,25 @@ use borrow.Author.Rules.{rules}
 use Rattle.league_table.proofs.remove_own.Statement.{statement}
 use Rattle.league_table.proofs.remove_own.Tie as tie
 
-take-own-requires : tie.Need-take-own-requires
-take-own-requires c κs =
-    let a = c.before.before.before.before.before.args in (c.before.before.before.before.before.requires, rw c.key-for.ensures (call-own a.league a.field (sym c.before.before.before.names-field.ensures ∙ c.before.before.if1.true)))
+take_own-requires : tie.Need-take_own-requires
+take_own-requires c κs =
+    let a = c.args in (c.requires, rw c.key_for.ensures (call-own a.league a.field (sym c.names_field.ensures ∙ c.if-names_field.true)))
 
-returns : tie.Need-returns
+returns : tie.Need-returns-then-names_field
 returns c =
-    let a = c.before.before.before.before.before.before.before.before.args in remove-so a.b.now a.n c.before.before.before.before.before.before.before.before.requires a.league a.field (sym c.before.before.before.before.before.before.names-field.ensures ∙ c.before.before.before.before.before.if1.true) (rw c.before.before.before.key-for.ensures at c.before.before.take_own.ensures.0) (rw c.before.before.before.key-for.ensures at c.before.before.take_own.ensures.1)
+    let a = c.args in remove-so a.b.now a.n c.requires a.league a.field (sym c.names_field.ensures ∙ c.if-names_field.true) (rw c.key_for.ensures at c.take_own.ensures.0) (rw c.key_for.ensures at c.take_own.ensures.1)
 
-returns-2 : tie.Need-returns-2
+returns-2 : tie.Need-returns
 returns-2 c =
-    let a = c.before.before.before.args in remove-no-field a.b.now a.n c.before.before.before.requires a.league a.field (sym c.before.names-field.ensures ∙ c.if1.false)
+    let a = c.args in remove-no-field a.b.now a.n c.requires a.league a.field (sym c.names_field.ensures ∙ c.if-names_field.false)
 
-pub remove-own-spec : {M : Type 1} → statement M
-remove-own-spec =
+pub remove_own_spec : {M : Type 1} → statement M
+remove_own_spec =
     tie.close
     (tie.spec
     (λ c κs. search rules)
     (λ c κs. search rules)
-    take-own-requires
+    take_own-requires
     (λ c. search rules)
     returns
     returns-2)

@@ -10,45 +10,45 @@ use Rattle.listing.proofs.Requests.{date-output, refusal-output, unread-output}
 use Rattle.listing.proofs.build.Statement.{statement}
 use Rattle.listing.proofs.build.Tie as tie
 
-date-by-requires : tie.Need-date-by-requires
-date-by-requires c κs =
-    (ap has_way_in (sym c.before.asked.given.1) ∙ c.before.before.before.read-line.ensures.1.0, omega (arith, ap rest_at c.before.asked.given.1, c.before.before.before.read-line.ensures.1.1))
+date_by-requires : tie.Need-date_by-answer-requires
+date_by-requires c κs =
+    (ap has_way_in (sym c.in-Ask.is) ∙ c.read_line-asked.ensures.1.0, omega (arith, ap rest_at c.in-Ask.is, c.read_line-asked.ensures.1.1))
 
-put-date-requires : tie.Need-put-date-requires
-put-date-requires c κs =
-    (c.before.before.before.before.before.before.before.before.before.before.before.requires, (date-output c.before.before.before.before.before.before.before.before.before.before.before.args.s.now (kind_of c.before.before.before.before.before.before.asked.given.0.0) (way_of c.before.before.before.before.before.before.asked.given.0.1.0) (sym c.before.before.before.before.before.before.before.before.read-line.ensures.0 ∙ ap (request_as c.before.before.before.before.before.before.before.before.before.before.before.args.s.now) c.before.before.before.before.before.before.asked.given.1) _ (ap asked_as (sym c.before.before.answer.given.1) ∙ c.before.before.before.before.date-by.ensures.0)).of-kind)
+put_date-requires : tie.Need-put_date-requires
+put_date-requires c κs =
+    (c.requires, (date-output c.args.s.now (kind_of c.in-Ask.kind) (way_of c.in-Ask.way) (sym c.read_line-asked.ensures.0 ∙ ap (request_as c.args.s.now) c.in-Ask.is) _ (ap asked_as (sym c.in-Date.is) ∙ c.date_by-answer.ensures.0)).of-kind)
 
-put-refused-requires : tie.Need-put-refused-requires
-put-refused-requires c κs =
-    (omega (arith, ap refusal_in c.before.before.before.answer2.given.1, c.before.before.before.before.before.date-by.ensures.1), c.before.before.before.before.before.before.before.before.before.before.before.before.requires)
+put_refused-requires : tie.Need-put_refused-requires
+put_refused-requires c κs =
+    (omega (arith, ap refusal_in c.in-Refused.is, c.date_by-answer.ensures.1), c.requires)
 
-returns : tie.Need-returns
+returns : tie.Need-returns-in-Date
 returns c =
-    let e = (date-output c.before.before.before.before.before.before.before.before.before.before.before.before.before.before.args.s.now (kind_of c.before.before.before.before.before.before.before.before.before.asked.given.0.0) (way_of c.before.before.before.before.before.before.before.before.before.asked.given.0.1.0) (sym c.before.before.before.before.before.before.before.before.before.before.before.read-line.ensures.0 ∙ ap (request_as c.before.before.before.before.before.before.before.before.before.before.before.before.before.before.args.s.now) c.before.before.before.before.before.before.before.before.before.asked.given.1) _ (ap asked_as (sym c.before.before.before.before.before.answer.given.1) ∙ c.before.before.before.before.before.before.before.date-by.ensures.0)).is in
-    let q = c.before.before.put-date.ensures in ((q.0.0 ∙ ap length (sym e), q.0.1), q.1 ∙ placed-as c.before.before.before.before.before.before.before.before.before.before.before.before.before.before.args.out.now e)
+    let e = (date-output c.args.s.now (kind_of c.in-Ask.kind) (way_of c.in-Ask.way) (sym c.read_line-asked.ensures.0 ∙ ap (request_as c.args.s.now) c.in-Ask.is) _ (ap asked_as (sym c.in-Date.is) ∙ c.date_by-answer.ensures.0)).is in
+    let q = c.put_date.ensures in ((q.0.0 ∙ ap length (sym e), q.0.1), q.1 ∙ placed-as c.args.out.now e)
 
-returns-2 : tie.Need-returns-2
+returns-2 : tie.Need-returns-in-Refused
 returns-2 c =
-    let e = refusal-output c.before.before.before.before.before.before.before.before.before.before.before.before.before.before.before.args.s.now (kind_of c.before.before.before.before.before.before.before.before.before.before.asked.given.0.0) (way_of c.before.before.before.before.before.before.before.before.before.before.asked.given.0.1.0) (sym c.before.before.before.before.before.before.before.before.before.before.before.before.read-line.ensures.0 ∙ ap (request_as c.before.before.before.before.before.before.before.before.before.before.before.before.before.before.before.args.s.now) c.before.before.before.before.before.before.before.before.before.before.asked.given.1) _ (ap asked_as (sym c.before.before.before.before.before.before.answer2.given.1) ∙ c.before.before.before.before.before.before.before.before.date-by.ensures.0) in
-    let q = rw c.before.before.before.letter.ensures at c.before.before.Put-refused.ensures in ((q.0.0 ∙ ap length (sym e), q.0.1), q.1 ∙ placed-as c.before.before.before.before.before.before.before.before.before.before.before.before.before.before.before.args.out.now e)
+    let e = refusal-output c.args.s.now (kind_of c.in-Ask.kind) (way_of c.in-Ask.way) (sym c.read_line-asked.ensures.0 ∙ ap (request_as c.args.s.now) c.in-Ask.is) _ (ap asked_as (sym c.in-Refused.is) ∙ c.date_by-answer.ensures.0) in
+    let q = rw c.letter.ensures at c.Put-refused.ensures in ((q.0.0 ∙ ap length (sym e), q.0.1), q.1 ∙ placed-as c.args.out.now e)
 
-returns-3 : tie.Need-returns-3
+returns-3 : tie.Need-returns-in-Unreadable
 returns-3 c =
-    let e = unread-output c.before.before.before.before.before.before.before.before.before.args.s.now (sym c.before.before.before.before.before.before.read-line.ensures.0 ∙ ap (request_as c.before.before.before.before.before.before.before.before.before.args.s.now) c.before.before.before.before.enum_told.given.1) in
-    let q = c.before.before.put-refused2.ensures in ((q.0.0 ∙ ap length (sym e), q.0.1), q.1 ∙ placed-as c.before.before.before.before.before.before.before.before.before.args.out.now e)
+    let e = unread-output c.args.s.now (sym c.read_line-asked.ensures.0 ∙ ap (request_as c.args.s.now) c.in-Unreadable.is) in
+    let q = c.put_refused-in-Unreadable.ensures in ((q.0.0 ∙ ap length (sym e), q.0.1), q.1 ∙ placed-as c.args.out.now e)
 
-pub build-spec : {M : Type 1} → statement M
-build-spec =
+pub build_spec : {M : Type 1} → statement M
+build_spec =
     tie.close
     (tie.spec
     (λ c κs. search rules)
     (λ c. search rules)
-    date-by-requires
+    date_by-requires
     (λ c. search rules)
-    put-date-requires
+    put_date-requires
     (λ c. search rules)
     (λ c κs. search rules)
-    put-refused-requires
+    put_refused-requires
     (λ c. search rules)
     (λ c κs. search rules)
     (λ c. search rules)

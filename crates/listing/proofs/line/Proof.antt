@@ -8,32 +8,32 @@ use Rattle.formatter.proofs.Texts.{taken, copied}
 use Rattle.listing.proofs.line.Statement.{statement}
 use Rattle.listing.proofs.line.Tie as tie
 
-returns : tie.Need-returns
+returns : tie.Need-returns-then-out-n
 returns c =
-    let s = wrote-short (line_output c.before.before.before.before.before.before.args.s.now) c.before.before.before.before.before.before.args.out.now (omega (arith, c.before.before.build.ensures.0.0)) in (s.answered, (s.holds, zero-le))
+    let s = wrote-short (line_output c.args.s.now) c.args.out.now (omega (arith, c.build-n.ensures.0.0)) in (s.answered, (s.holds, zero-le))
 
-slice-aggregate-copy : tie.Need-slice-aggregate-copy
-slice-aggregate-copy c =
-    rw (taken (line_output c.before.before.before.before.before.before.before.args.s.now) _ c.before.before.before.build.new.1.0 c.before.before.before.build.result c.before.before.before.build.ensures.0.0 c.before.before.before.build.ensures.1) c.before.before.before.build.ensures.0.0
+slice_aggregate-copy : tie.Need-slice_bounds-copy-end
+slice_aggregate-copy c =
+    rw (taken (line_output c.args.s.now) _ c.build-n.new.out c.build-n.result c.build-n.ensures.0.0 c.build-n.ensures.1) c.build-n.ensures.0.0
 
 copy-requires : tie.Need-copy-requires
 copy-requires c κs =
-    rw (taken (line_output c.before.before.before.before.before.before.before.before.args.s.now) _ c.before.before.before.before.build.new.1.0 c.before.before.before.before.build.result c.before.before.before.before.build.ensures.0.0 c.before.before.before.before.build.ensures.1) (omega (arith, c.before.before.before.before.build.ensures.0.0))
+    rw (taken (line_output c.args.s.now) _ c.build-n.new.out c.build-n.result c.build-n.ensures.0.0 c.build-n.ensures.1) (omega (arith, c.build-n.ensures.0.0))
 
-returns-2 : tie.Need-returns-2
+returns-2 : tie.Need-returns
 returns-2 c =
-    let w = wrote (line_output c.before.before.before.before.before.before.before.before.before.before.before.args.s.now) c.before.before.before.before.before.before.before.before.before.before.before.args.out.now c.before.before.before.before.before.before.before.build.ensures.0.0 c.before.before.before.before.before.if1.false (copied (line_output c.before.before.before.before.before.before.before.before.before.before.before.args.s.now) _ c.before.before.before.before.before.before.before.before.before.before.before.args.out.now _ (taken (line_output c.before.before.before.before.before.before.before.before.before.before.before.args.s.now) _ c.before.before.before.before.before.before.before.build.new.1.0 c.before.before.before.before.before.before.before.build.result c.before.before.before.before.before.before.before.build.ensures.0.0 c.before.before.before.before.before.before.before.build.ensures.1) c.before.before.copy.ensures) in
+    let w = wrote (line_output c.args.s.now) c.args.out.now c.build-n.ensures.0.0 c.if-out-n.false (copied (line_output c.args.s.now) _ c.args.out.now _ (taken (line_output c.args.s.now) _ c.build-n.new.out c.build-n.result c.build-n.ensures.0.0 c.build-n.ensures.1) c.copy.ensures) in
     let s = wrote-whole w in (s.answered, (s.holds, w.room))
 
-pub line-spec : {M : Type 1} → statement M
-line-spec =
+pub line_spec : {M : Type 1} → statement M
+line_spec =
     tie.close
     (tie.spec
     (λ c. search rules)
     (λ c κs. search rules)
     returns
     (λ c. search rules)
-    slice-aggregate-copy
+    slice_aggregate-copy
     copy-requires
     (λ c. search rules)
     returns-2)

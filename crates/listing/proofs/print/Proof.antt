@@ -7,16 +7,16 @@ use Rattle.listing.proofs.PassLaws.{whole}
 use Rattle.listing.proofs.print.Statement.{statement}
 use Rattle.listing.proofs.print.Tie as tie
 
-returns : tie.Need-returns
+returns : tie.Need-returns-in-Length
 returns c =
-    let h = listing-long c.before.before.before.before.before.before.before.before.before.args.input.now in let w = whole (listing c.before.before.before.before.before.before.before.before.before.args.input.now) c.before.before.before.before.before.before.before.before.before.args.out.now c.before.before.before.before.before.listing.result (omega (arith, h, c.before.before.before.before.before.before.before.before.before.requires)) c.before.before.before.before.before.listing.ensures.0 c.before.before.before.before.before.listing.ensures.1.0 in let n = rw c.before.answer.given.1 at w.answered in ((n, omega (arith, n, h, c.before.before.before.before.before.before.before.before.before.requires)), w.holds)
+    let h = listing-long c.args.input.now in let w = whole (listing c.args.input.now) c.args.out.now c.listing-answer.result (omega (arith, h, c.requires)) c.listing-answer.ensures.0 c.listing-answer.ensures.1.0 in let n = rw c.in-Length.is at w.answered in ((n, omega (arith, n, h, c.requires)), w.holds)
 
-returns-2 : tie.Need-returns-2
+returns-2 : tie.Need-returns-in-Short
 returns-2 c =
-    let h = listing-long c.before.before.before.before.before.before.before.before.args.input.now in let w = whole (listing c.before.before.before.before.before.before.before.before.args.input.now) c.before.before.before.before.before.before.before.before.args.out.now c.before.before.before.before.listing.result (omega (arith, h, c.before.before.before.before.before.before.before.before.requires)) c.before.before.before.before.listing.ensures.0 c.before.before.before.before.listing.ensures.1.0 in let n = rw c.enum_told.given.1 at w.answered in ((n, omega (arith, n, h, c.before.before.before.before.before.before.before.before.requires)), w.holds)
+    let h = listing-long c.args.input.now in let w = whole (listing c.args.input.now) c.args.out.now c.listing-answer.result (omega (arith, h, c.requires)) c.listing-answer.ensures.0 c.listing-answer.ensures.1.0 in let n = rw c.in-Short.is at w.answered in ((n, omega (arith, n, h, c.requires)), w.holds)
 
-pub print-spec : {M : Type 1} → statement M
-print-spec =
+pub print_spec : {M : Type 1} → statement M
+print_spec =
     tie.close
     (tie.spec
     (λ c κs. search rules)

@@ -1,4 +1,4 @@
--- `listing::too_long_lem` meets its contract. Assumes nothing.
+-- `listing::too_long` meets its contract. Assumes nothing.
 use borrow.Author.Rules.{rules}
 use native.Mathlib.Omega.{arith}
 use Prim.Native.Nat.{zero-le}
@@ -8,14 +8,14 @@ use Rattle.rules.proofs.OnSpelling.WriteLaws.{wrote, wrote-whole, wrote-short}
 use Rattle.listing.proofs.too_long.Statement.{statement}
 use Rattle.listing.proofs.too_long.Tie as tie
 
-returns : tie.Need-returns
+returns : tie.Need-returns-then-out-lt15
 returns c =
-    let s = wrote-short (bytes "input too long\n") c.before.before.args.out.now (omega arith) in (s.answered, (s.holds, zero-le))
+    let s = wrote-short (bytes "input too long\n") c.args.out.now (omega arith) in (s.answered, (s.holds, zero-le))
 
-returns-2 : tie.Need-returns-2
+returns-2 : tie.Need-returns
 returns-2 c =
-    let w = wrote (bytes "input too long\n") c.before.before.before.before.before.before.before.args.out.now refl (omega arith) c.before.before.copy.ensures in let s = wrote-whole w in (s.answered, (s.holds, w.room))
+    let w = wrote (bytes "input too long\n") c.args.out.now refl (omega arith) c.copy.ensures in let s = wrote-whole w in (s.answered, (s.holds, w.room))
 
-pub too-long-spec : {M : Type 1} → statement M
-too-long-spec =
-    tie.close (tie.spec returns (λ c. search rules) (λ c κs. search rules) (λ c. search rules) returns-2)
+pub too_long_spec : {M : Type 1} → statement M
+too_long_spec =
+    tie.close (tie.spec returns (λ c κs. search rules) (λ c. search rules) returns-2)

@@ -6,17 +6,17 @@ use Rattle.request.proofs.Answers.{by_way}
 use Rattle.request.proofs.date_by.Statement.{statement}
 use Rattle.request.proofs.date_by.Tie as tie
 
-returns : tie.Need-returns
-returns c = by_way _ _ _ c.before.before.before.before.requires.0 c.date-by-text.result (ap way_of c.before.enum_told.given.1) c.date-by-text.ensures
+returns : tie.Need-returns-in-Text
+returns c = by_way _ _ _ c.requires.0 c.date_by_text.result (ap way_of c.in-Text.is) c.date_by_text.ensures
 
-returns-2 : tie.Need-returns-2
-returns-2 c = by_way _ _ _ c.before.before.before.before.requires.0 c.date-by-number.result (ap way_of c.before.enum-told2.given.1) c.date-by-number.ensures
+returns-2 : tie.Need-returns-in-Number
+returns-2 c = by_way _ _ _ c.requires.0 c.date_by_number.result (ap way_of c.in-Number.is) c.date_by_number.ensures
 
-returns-3 : tie.Need-returns-3
-returns-3 c = by_way _ _ _ c.before.before.before.before.requires.0 c.date-by-guess.result (ap way_of c.before.enum-told3.given.1) c.date-by-guess.ensures
+returns-3 : tie.Need-returns-in-Guess
+returns-3 c = by_way _ _ _ c.requires.0 c.date_by_guess.result (ap way_of c.in-Guess.is) c.date_by_guess.ensures
 
-pub date-by-spec : {M : Type 1} → statement M
-date-by-spec =
+pub date_by_spec : {M : Type 1} → statement M
+date_by_spec =
     tie.close
     (tie.spec
     (λ c. search rules)

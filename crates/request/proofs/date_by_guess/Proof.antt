@@ -8,22 +8,22 @@ use borrow.Author.Rules.{rules}
 use Rattle.request.proofs.date_by_guess.Statement.{statement}
 use Rattle.request.proofs.date_by_guess.Tie as tie
 
-returns : tie.Need-returns
+returns : tie.Need-returns-in_default
 unfolding date_by
-returns c = rw (← c.before.before.number.ensures, c.enum_told.given.1)
+returns c = rw (← c.number.ensures, c.in_default.is)
 
-returns-2 : tie.Need-returns-2
+returns-2 : tie.Need-returns-in-Date
 unfolding date_by
 returns-2 c =
-    rw (← c.before.before.before.before.before.before.before.number.ensures, c.before.before.before.before.before.n.given.1) (ap guessed_as (sym c.before.guess.given.1) ∙ rw (held w32 {z = c.before.before.before.before.before.n.given.0.0} c.before.before.before.before.known-told.given.0.1) at c.before.before.before.from-binary-heuristic.ensures)
+    rw (← c.number.ensures, c.in-Value.is) (ap guessed_as (sym c.in-Date.is) ∙ rw (held w32 {z = c.in-Value.n} c.in-Value.known_told-1-own.given.0.1) at c.from_binary_heuristic-guess.ensures)
 
-returns-3 : tie.Need-returns-3
+returns-3 : tie.Need-returns-in-NotNumber
 unfolding date_by
 returns-3 c =
-    rw (← c.before.before.before.before.before.before.number.ensures, c.before.before.before.before.n.given.1) (ap guessed_as (sym c.enum-told2.given.1) ∙ rw (held w32 {z = c.before.before.before.before.n.given.0.0} c.before.before.before.known-told.given.0.1) at c.before.before.from-binary-heuristic.ensures)
+    rw (← c.number.ensures, c.in-Value.is) (ap guessed_as (sym c.in-NotNumber.is) ∙ rw (held w32 {z = c.in-Value.n} c.in-Value.known_told-1-own.given.0.1) at c.from_binary_heuristic-guess.ensures)
 
-pub date-by-guess-spec : {M : Type 1} → statement M
-date-by-guess-spec =
+pub date_by_guess_spec : {M : Type 1} → statement M
+date_by_guess_spec =
     tie.close
     (tie.spec
     (λ c κs. search rules)

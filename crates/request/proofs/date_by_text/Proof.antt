@@ -11,23 +11,23 @@ use borrow.Author.Rules.{rules}
 use Rattle.request.proofs.date_by_text.Statement.{statement}
 use Rattle.request.proofs.date_by_text.Tie as tie
 
-got : (c : tie.After-parse) → parsed_as c.parse.result ≡ store (read_text (kind_of c.before.before.before.args.kind) (drop 4 c.before.before.before.args.s.now))
-got c = rw (tail-lent c.before.before.before.args.s.now 4) at c.parse.ensures
+got : (c : tie.After-parse-parsed) → parsed_as c.parse-parsed.result ≡ store (read_text (kind_of c.args.kind) (drop 4 c.args.s.now))
+got c = rw (tail-lent c.args.s.now 4) at c.parse-parsed.ensures
 
-returns : tie.Need-returns
+returns : tie.Need-returns-in-Date
 unfolding date_by
-returns c = ap parsed_as (sym c.before.parsed.given.1) ∙ got c.before.before.before
+returns c = ap parsed_as (sym c.in-Date.is) ∙ got c.before
 
-returns-2 : tie.Need-returns-2
+returns-2 : tie.Need-returns-in-TooLong
 unfolding date_by
-returns-2 c = ap parsed_as (sym c.enum_told.given.1) ∙ got c.before.before
+returns-2 c = ap parsed_as (sym c.in-TooLong.is) ∙ got c.before
 
-returns-3 : tie.Need-returns-3
+returns-3 : tie.Need-returns-in-NotText
 unfolding date_by
-returns-3 c = ap parsed_as (sym c.enum-told2.given.1) ∙ got c.before.before
+returns-3 c = ap parsed_as (sym c.in-NotText.is) ∙ got c.before
 
-pub date-by-text-spec : {M : Type 1} → statement M
-date-by-text-spec =
+pub date_by_text_spec : {M : Type 1} → statement M
+date_by_text_spec =
     tie.close
     (tie.spec
     (λ c. search rules)

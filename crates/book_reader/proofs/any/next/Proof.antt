@@ -9,9 +9,9 @@ use Rattle.book_reader.specs.contracts.any.next.Key.{name}
 use Rattle.book_reader.proofs.any.next.Statement.{statement}
 use Rattle.book_reader.proofs.any.next.Code as code
 
-pub next-spec : {M : Type 1} → statement M
+pub next_spec : {M : Type 1} → statement M
 unfolding code.routine tables_of
-next-spec 𝓤 𝓛 𝓜 𝓡 =
+next_spec 𝓤 𝓛 𝓜 𝓡 =
     entered 𝓤 𝓛.H _ _ _ name code.function (code.unfolded 𝓤 𝓛.H 𝓜 𝓡)
     (walk.meets any-book-reader record-at.name 𝓛 (tables_of 𝓤 𝓛.H 𝓜 (tables 𝓤 𝓛.H 𝓜 𝓡 code.env))
-    (cited 𝓤 𝓛.H _ 𝓜 𝓡 code.env record-at.name record-at.routine code.calls-book-versions::any::record-at (record-at-known.met 𝓤 𝓛 𝓜 𝓡)))
+    (cited 𝓤 𝓛.H _ 𝓜 𝓡 code.env record-at.name record-at.routine code.calls-book_versions::any::record_at (record-at-known.met 𝓤 𝓛 𝓜 𝓡)))

@@ -11,10 +11,10 @@ use Rattle.book_reader.specs.contracts.any.next_at.Key.{name}
 use Rattle.book_reader.proofs.any.next_at.Statement.{statement}
 use Rattle.book_reader.proofs.any.next_at.Code as code
 
-pub next-at-spec : {M : Type 1} → statement M
+pub next_at_spec : {M : Type 1} → statement M
 unfolding code.routine tables_of
-next-at-spec 𝓤 𝓛 𝓜 𝓡 =
+next_at_spec 𝓤 𝓛 𝓜 𝓡 =
     entered 𝓤 𝓛.H _ _ _ name code.function (code.unfolded 𝓤 𝓛.H 𝓜 𝓡)
     (walk.meets any-book-reader start.name next.name 𝓛 (tables_of 𝓤 𝓛.H 𝓜 (tables 𝓤 𝓛.H 𝓜 𝓡 code.env))
-    (cited 𝓤 𝓛.H _ 𝓜 𝓡 code.env start.name start.routine code.calls-book-reader::any::start (start-known.met 𝓤 𝓛 𝓜 𝓡))
-    (cited 𝓤 𝓛.H _ 𝓜 𝓡 code.env next.name next.routine code.calls-book-reader::any::next (next-Known.met 𝓤 𝓛 𝓜 𝓡)))
+    (cited 𝓤 𝓛.H _ 𝓜 𝓡 code.env start.name start.routine code.calls-book_reader::any::start (start-known.met 𝓤 𝓛 𝓜 𝓡))
+    (cited 𝓤 𝓛.H _ 𝓜 𝓡 code.env next.name next.routine code.calls-book_reader::any::next (next-Known.met 𝓤 𝓛 𝓜 𝓡)))

@@ -9,10 +9,10 @@ use Rattle.gap_report.proofs.lines.put_count.Tie as tie
 
 returns : tie.Need-returns
 returns c =
-    let a = c.before.before.before.before.before.before.args in rw (← c.letter.ensures) (after-byte a.out.now c.letter.result (spaced (decimal a.count)) (omega arith) c.before.before.before.put-number.ensures)
+    let a = c.args in rw (← c.letter.ensures) (after-byte a.out.now c.letter.result (spaced (decimal a.count)) (omega arith) c.put_number-end.ensures)
 
-pub put-count-spec : {M : Type 1} → statement M
-put-count-spec =
+pub put_count_spec : {M : Type 1} → statement M
+put_count_spec =
     tie.close
     (tie.spec
     (λ c. search rules)

@@ -10,10 +10,10 @@ use Rattle.gap_report.proofs.lines.put_date.Tie as tie
 
 returns : tie.Need-returns
 returns c =
-    let a = c.before.before.before.before.before.args in after-byte a.out.now 32 (dotted (kind_of a.kind) (unpacked (bits_of a.date))) (omega arith) c.before.before.put-dotted.ensures
+    let a = c.args in after-byte a.out.now 32 (dotted (kind_of a.kind) (unpacked (bits_of a.date))) (omega arith) c.put_dotted-end.ensures
 
-pub put-date-spec : {M : Type 1} → statement M
-put-date-spec =
+pub put_date_spec : {M : Type 1} → statement M
+put_date_spec =
     tie.close
     (tie.spec
     (λ c. search rules)

@@ -11,29 +11,29 @@ use Rattle.gap_report.proofs.TextLaws.{named, and-text, and_byte, count_text, li
 use Rattle.gap_report.proofs.lines.put_line.Statement.{statement}
 use Rattle.gap_report.proofs.lines.put_line.Tie as tie
 
-returns : tie.Need-returns
+returns : tie.Need-returns-then-t-eq0
 returns c =
-    let a = c.before.before.before.before.before.before.before.before.args in
+    let a = c.args in
     let k = kind_of a.kind in
     let t = tallied_as a.t in
     let l₀ = a.out.now in
-    named l₀ (line-none k t (eq-eqb _ 0 c.if1.true)) (omega arith) (and_byte l₀ (count_text k t) c.before.before.before.before.put_count.ensures 10 (omega arith))
+    named l₀ (line-none k t (eq-eqb _ 0 c.if-t-eq0.true)) (omega arith) (and_byte l₀ (count_text k t) c.put_count-rest_at.ensures 10 (omega arith))
 
-put-rest-requires : tie.Need-put-rest-requires
-put-rest-requires c κs =
-    (search rules, c.before.before.before.before.before.before.before.before.before.requires.1 (ne_eqb _ 0 c.before.if1.false))
+put_rest-requires : tie.Need-put_rest-requires
+put_rest-requires c κs =
+    (search rules, c.requires.1 (ne_eqb _ 0 c.if-t-eq0.false))
 
-returns-2 : tie.Need-returns-2
+returns-2 : tie.Need-returns
 returns-2 c =
-    let a = c.before.before.before.before.before.before.before.before.before.before.before.before.args in
+    let a = c.args in
     let k = kind_of a.kind in
     let t = tallied_as a.t in
     let l₀ = a.out.now in
-    let w = and-text l₀ (count_text k t) c.before.before.before.before.before.before.before.before.put_count.ensures (tally_rest k t) (omega arith) c.before.before.put_rest.ensures in
-    named l₀ (line-some k t (ne_eqb _ 0 c.before.before.before.before.if1.false)) (omega arith) (and_byte l₀ (count_text k t ++ tally_rest k t) w 10 (omega arith))
+    let w = and-text l₀ (count_text k t) c.put_count-rest_at.ensures (tally_rest k t) (omega arith) c.put_rest.ensures in
+    named l₀ (line-some k t (ne_eqb _ 0 c.if-t-eq0.false)) (omega arith) (and_byte l₀ (count_text k t ++ tally_rest k t) w 10 (omega arith))
 
-pub put-line-spec : {M : Type 1} → statement M
-put-line-spec =
+pub put_line_spec : {M : Type 1} → statement M
+put_line_spec =
     tie.close
     (tie.spec
     (λ c. search rules)
@@ -45,7 +45,7 @@ put-line-spec =
     (λ c. search rules)
     (λ c. search rules)
     (λ c. search rules)
-    put-rest-requires
+    put_rest-requires
     (λ c. search rules)
     (λ c. search rules)
     (λ c. search rules)

@@ -11,26 +11,26 @@ use Rattle.gap_report.proofs.TextLaws.{named, and-text, dates_text, rest-counted
 use Rattle.gap_report.proofs.lines.put_rest.Statement.{statement}
 use Rattle.gap_report.proofs.lines.put_rest.Tie as tie
 
-returns : tie.Need-returns
+returns : tie.Need-returns-then-counts_days
 returns c =
-    let a = c.before.before.before.before.before.before.before.before.before.before.before.before.before.before.before.args in
+    let a = c.args in
     let k = kind_of a.kind in
     let t = tallied_as a.t in
     let l₀ = a.out.now in
-    let w = and-text l₀ (spaced (dotted k t.earliest)) c.before.before.before.before.before.before.before.before.before.before.before.before.put-date.ensures (spaced (dotted k t.latest)) (omega arith) c.before.before.before.before.before.before.before.before.put-date2.ensures in
-    named l₀ (rest-counted k t (sym c.before.before.before.before.before.counts-days.ensures ∙ c.before.before.before.before.if1.true)) (omega arith) (and-text l₀ (dates_text k t) w (tally_steps t) (omega arith) c.before.before.put-steps.ensures)
+    let w = and-text l₀ (spaced (dotted k t.earliest)) c.put_date-latest_at.ensures (spaced (dotted k t.latest)) (omega arith) c.put_date.ensures in
+    named l₀ (rest-counted k t (sym c.counts_days.ensures ∙ c.if-counts_days.true)) (omega arith) (and-text l₀ (dates_text k t) w (tally_steps t) (omega arith) c.put_steps.ensures)
 
-returns-2 : tie.Need-returns-2
+returns-2 : tie.Need-returns
 returns-2 c =
-    let a = c.before.before.before.before.before.before.before.before.before.before.before.args in
+    let a = c.args in
     let k = kind_of a.kind in
     let t = tallied_as a.t in
     let l₀ = a.out.now in
-    let w = and-text l₀ (spaced (dotted k t.earliest)) c.before.before.before.before.before.before.before.before.put-date.ensures (spaced (dotted k t.latest)) (omega arith) c.before.before.before.before.put-date2.ensures in
-    named l₀ (rest-uncounted k t (sym c.before.counts-days.ensures ∙ c.if1.false)) (omega arith) w
+    let w = and-text l₀ (spaced (dotted k t.earliest)) c.put_date-latest_at.ensures (spaced (dotted k t.latest)) (omega arith) c.put_date.ensures in
+    named l₀ (rest-uncounted k t (sym c.counts_days.ensures ∙ c.if-counts_days.false)) (omega arith) w
 
-pub put-rest-spec : {M : Type 1} → statement M
-put-rest-spec =
+pub put_rest_spec : {M : Type 1} → statement M
+put_rest_spec =
     tie.close
     (tie.spec
     (λ c κs. search rules)

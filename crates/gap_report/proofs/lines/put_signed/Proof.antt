@@ -10,16 +10,16 @@ use Rattle.gap_report.proofs.TextLaws.{after-byte, named, signed_below, signed_a
 use Rattle.gap_report.proofs.lines.put_signed.Statement.{statement}
 use Rattle.gap_report.proofs.lines.put_signed.Tie as tie
 
-returns : tie.Need-returns
+returns : tie.Need-returns-then-up-dn
 returns c =
-    let a = c.before.before.before.before.before.before.args in named a.out.now (ap spaced (signed_below _ _ c.before.before.before.before.if1.true)) (omega arith) (after-byte a.out.now 32 (45 ∷ decimal (a.dn - a.up)) (omega arith) c.before.before.put-after.ensures)
+    let a = c.args in named a.out.now (ap spaced (signed_below _ _ c.if-up-dn.true)) (omega arith) (after-byte a.out.now 32 (45 ∷ decimal (a.dn - a.up)) (omega arith) c.put_after-end.ensures)
 
-returns-2 : tie.Need-returns-2
+returns-2 : tie.Need-returns
 returns-2 c =
-    named c.before.before.before.before.before.before.args.out.now (ap spaced (signed_above _ _ c.before.before.before.before.if1.false)) (omega arith) c.before.before.put-number.ensures
+    named c.args.out.now (ap spaced (signed_above _ _ c.if-up-dn.false)) (omega arith) c.put_number.ensures
 
-pub put-signed-spec : {M : Type 1} → statement M
-put-signed-spec =
+pub put_signed_spec : {M : Type 1} → statement M
+put_signed_spec =
     tie.close
     (tie.spec
     (λ c. search rules)

@@ -13,17 +13,17 @@ use Rattle.gap_report.proofs.lines.put_steps.Tie as tie
 
 returns : tie.Need-returns
 returns c =
-    let start = c.before.before.before.before.before.before.before.before.before.before.before.before.before.before.before.before.before in
+    let start = c in
     let t = start.args.t in
     let l₀ = start.args.out.now in
     let s = spaced (decimal t.step) in
     let p = spaced (decimal t.place) in
-    let w = and-text l₀ s c.before.before.before.before.before.before.before.before.before.before.before.before.before.put-number.ensures p (omega (arith, start.requires)) c.before.before.before.before.before.before.before.before.put-number2.ensures in
-    let all = and-text l₀ (s ++ p) w (spaced (signed (sub_ℕ t.last t.first))) (omega (arith, start.requires)) c.before.before.put-signed.ensures in
+    let w = and-text l₀ s c.put_number-place_at.ensures p (omega (arith, start.requires)) c.put_number.ensures in
+    let all = and-text l₀ (s ++ p) w (spaced (signed (sub_ℕ t.last t.first))) (omega (arith, start.requires)) c.put_signed.ensures in
     named l₀ (ap (λ z. s ++ p ++ spaced (signed z)) (apart t.first t.last)) (omega arith) all
 
-pub put-steps-spec : {M : Type 1} → statement M
-put-steps-spec =
+pub put_steps_spec : {M : Type 1} → statement M
+put_steps_spec =
     tie.close
     (tie.spec
     (λ c. search rules)

@@ -12,7 +12,7 @@ use Rattle.gap_report.proofs.numbers.date_figure.Tie as tie
 
 returns : tie.Need-returns
 returns c =
-    held w64 c.figure.type-inv ∙ c.figure.ensures ∙ ap pos (ap (λ (n : ℕ). n / 4 * 4) c.before.date-number.ensures ∙ number-alone (bits_of c.before.before.args.date))
+    held w64 c.figure.type_inv ∙ c.figure.ensures ∙ ap pos (ap (λ (n : ℕ). n / 4 * 4) c.date_number.ensures ∙ number-alone (bits_of c.args.date))
 
-pub date-figure-spec : {M : Type 1} → statement M
-date-figure-spec = tie.close (tie.spec (λ c κs. search rules) (λ c. search rules) (λ c κs. search rules) returns)
+pub date_figure_spec : {M : Type 1} → statement M
+date_figure_spec = tie.close (tie.spec (λ c κs. search rules) (λ c. search rules) (λ c κs. search rules) returns)

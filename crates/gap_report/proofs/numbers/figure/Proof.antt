@@ -8,7 +8,7 @@ use Rattle.gap_report.proofs.numbers.figure.Statement.{statement}
 use Rattle.gap_report.proofs.numbers.figure.Tie as tie
 
 returns : tie.Need-returns
-returns c = held w64 c.int64.type-inv ∙ c.int64.ensures ∙ from_nothing c.before.args.n
+returns c = held w64 c.int64.type_inv ∙ c.int64.ensures ∙ from_nothing c.args.n
 
-pub figure-spec : {M : Type 1} → statement M
-figure-spec = tie.close (tie.spec (λ c κs. search rules) returns)
+pub figure_spec : {M : Type 1} → statement M
+figure_spec = tie.close (tie.spec (λ c κs. search rules) returns)

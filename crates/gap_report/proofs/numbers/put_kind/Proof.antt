@@ -8,7 +8,7 @@ use Rattle.gap_report.proofs.numbers.put_kind.Tie as tie
 
 returns : tie.Need-returns
 returns c =
-    rw (← (figures-are (kind_of c.before.before.before.before.before.args.kind) (of_book (kind_of c.before.before.before.before.before.args.kind) c.before.before.before.before.before.args.b.now)), ← c.before.before.walk.ensures.1) c.before.put-tally.ensures
+    rw (← (figures-are (kind_of c.args.kind) (of_book (kind_of c.args.kind) c.args.b.now)), ← c.walk.ensures.1) c.put_tally.ensures
 
-pub put-kind-spec : {M : Type 1} → statement M
-put-kind-spec = tie.close (tie.spec (λ c κs. search rules) (λ c κs. search rules) (λ c. search rules) returns)
+pub put_kind_spec : {M : Type 1} → statement M
+put_kind_spec = tie.close (tie.spec (λ c κs. search rules) (λ c κs. search rules) (λ c. search rules) returns)

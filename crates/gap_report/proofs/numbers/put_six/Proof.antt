@@ -11,8 +11,8 @@ returns : tie.Need-returns
 returns c =
     let a = c.args in let f = c.ranges in rw (to_z-of_z f.a, to_z-of_z f.b, to_z-of_z f.c, to_z-of_z f.d, to_z-of_z f.e, to_z-of_z f.f) (six-sets a.out.now a.at a.a a.b a.c a.d a.e a.f)
 
-pub put-six-spec : {M : Type 1} → statement M
-put-six-spec =
+pub put_six_spec : {M : Type 1} → statement M
+put_six_spec =
     tie.close
     (tie.spec
     (λ c. search rules)

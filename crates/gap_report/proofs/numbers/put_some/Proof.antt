@@ -7,16 +7,16 @@ use borrow.Author.Rules.{rules}
 use Rattle.gap_report.proofs.numbers.put_some.Statement.{statement}
 use Rattle.gap_report.proofs.numbers.put_some.Tie as tie
 
-returns : tie.Need-returns
+returns : tie.Need-returns-then-counts_days
 returns c =
-    rw (sym c.before.before.before.before.before.before.before.before.before.counts-days.ensures ∙ c.before.before.before.before.before.before.before.before.if1.true, apart c.before.before.before.before.before.before.before.before.before.before.before.before.before.args.t.first c.before.before.before.before.before.before.before.before.before.before.before.before.before.args.t.last) (rw (held w64 c.before.before.before.before.before.before.before.before.before.before.before.before.figure.type-inv, c.before.before.before.before.before.before.before.before.before.before.before.before.figure.ensures, held w64 c.before.before.before.before.before.before.before.before.before.before.before.date-figure.type-inv, c.before.before.before.before.before.before.before.before.before.before.before.date-figure.ensures, held w64 c.before.before.before.before.before.before.before.before.before.before.date-figure2.type-inv, c.before.before.before.before.before.before.before.before.before.before.date-figure2.ensures, held w64 c.before.before.before.figure2.type-inv, c.before.before.before.figure2.ensures, held w64 c.before.before.figure3.type-inv, c.before.before.figure3.ensures, held w64 c.before.before.before.before.before.int64.type-inv, c.before.before.before.before.before.int64.ensures) at c.before.put_six.ensures)
+    rw (sym c.counts_days.ensures ∙ c.if-counts_days.true, apart c.args.t.first c.args.t.last) (rw (held w64 c.figure-count.type_inv, c.figure-count.ensures, held w64 c.date_figure-earliest.type_inv, c.date_figure-earliest.ensures, held w64 c.date_figure-latest.type_inv, c.date_figure-latest.ensures, held w64 c.figure.type_inv, c.figure.ensures, held w64 c.figure-then-counts_days.type_inv, c.figure-then-counts_days.ensures, held w64 c.int64-sum.type_inv, c.int64-sum.ensures) at c.put_six.ensures)
 
-returns-2 : tie.Need-returns-2
+returns-2 : tie.Need-returns
 returns-2 c =
-    rw (sym c.before.before.before.before.counts-days.ensures ∙ c.before.before.before.if1.false) (rw (held w64 c.before.before.before.before.before.before.before.figure.type-inv, c.before.before.before.before.before.before.before.figure.ensures, held w64 c.before.before.before.before.before.before.date-figure.type-inv, c.before.before.before.before.before.before.date-figure.ensures, held w64 c.before.before.before.before.before.date-figure2.type-inv, c.before.before.before.before.before.date-figure2.ensures) at c.before.put-six2.ensures)
+    rw (sym c.counts_days.ensures ∙ c.if-counts_days.false) (rw (held w64 c.figure-count.type_inv, c.figure-count.ensures, held w64 c.date_figure-earliest.type_inv, c.date_figure-earliest.ensures, held w64 c.date_figure-latest.type_inv, c.date_figure-latest.ensures) at c.put_six-2.ensures)
 
-pub put-some-spec : {M : Type 1} → statement M
-put-some-spec =
+pub put_some_spec : {M : Type 1} → statement M
+put_some_spec =
     tie.close
     (tie.spec
     (λ c κs. search rules)

@@ -5,17 +5,17 @@ use borrow.Author.Rules.{rules}
 use Rattle.gap_report.proofs.numbers.put_tally.Statement.{statement}
 use Rattle.gap_report.proofs.numbers.put_tally.Tie as tie
 
-returns : tie.Need-returns
+returns : tie.Need-returns-then-t-eq0
 unfolding tally_figures
 returns c =
-    rw (eq-eqb c.before.before.before.before.before.args.t.count 0 c.before.before.before.if1.true) c.before.put_six.ensures
+    rw (eq-eqb c.args.t.count 0 c.if-t-eq0.true) c.put_six.ensures
 
-returns-2 : tie.Need-returns-2
+returns-2 : tie.Need-returns
 unfolding tally_figures
 returns-2 c =
-    rw (ne_eqb c.before.before.before.before.before.args.t.count 0 c.before.before.before.if1.false) c.before.put_some_lem.ensures
+    rw (ne_eqb c.args.t.count 0 c.if-t-eq0.false) c.put_some.ensures
 
-pub put-tally-spec : {M : Type 1} → statement M
-put-tally-spec =
+pub put_tally_spec : {M : Type 1} → statement M
+put_tally_spec =
     tie.close
     (tie.spec (λ c κs. search rules) (λ c. search rules) returns (λ c κs. search rules) (λ c. search rules) returns-2)

@@ -9,10 +9,10 @@ use Rattle.gap_report.proofs.tally.added.Tie as tie
 
 returns : tie.Need-returns
 returns c =
-    let d = c.before.before.before.before.before.before.requires.1.1 (ne_eqb c.before.before.before.before.before.before.args.t.count 0 (λ e. omega arith)) in let k = kind_of c.before.before.before.before.before.before.args.kind in (λ e. (c.before.earlier.ensures.1 k d.0 c.before.before.before.before.before.before.requires.0, c.later.ensures.1 k d.1 c.before.before.before.before.before.before.requires.0), rw (add-one, c.before.earlier.ensures.0, c.later.ensures.0, c.before.before.before.longer.ensures, c.before.before.before.before.distance.ensures, c.before.before.before.before.before.day-number.ensures))
+    let d = c.requires.1.1 (ne_eqb c.args.t.count 0 (λ e. omega arith)) in let k = kind_of c.args.kind in (λ e. (c.earlier.ensures.1 k d.0 c.requires.0, c.later.ensures.1 k d.1 c.requires.0), rw (add-one, c.earlier.ensures.0, c.later.ensures.0, c.longer-longest.ensures, c.distance.ensures, c.day_number-number.ensures))
 
-pub added-spec : {M : Type 1} → statement M
-added-spec =
+pub added_spec : {M : Type 1} → statement M
+added_spec =
     tie.close
     (tie.spec
     (λ c κs. search rules)

@@ -4,7 +4,7 @@ use Rattle.gap_report.proofs.tally.begun.Statement.{statement}
 use Rattle.gap_report.proofs.tally.begun.Tie as tie
 
 returns : tie.Need-returns
-returns c = (λ e. (c.before.requires, c.before.requires), rw c.day-number.ensures)
+returns c = (λ e. (c.requires, c.requires), rw c.day_number-number.ensures)
 
-pub begun-spec : {M : Type 1} → statement M
-begun-spec = tie.close (tie.spec (λ c κs. search rules) returns)
+pub begun_spec : {M : Type 1} → statement M
+begun_spec = tie.close (tie.spec (λ c κs. search rules) returns)

@@ -9,19 +9,19 @@ use borrow.Author.Rules.{rules}
 use Rattle.gap_report.proofs.tally.day_number.Statement.{statement}
 use Rattle.gap_report.proofs.tally.day_number.Tie as tie
 
-from-least-requires : tie.Need-from-least-requires
-from-least-requires c κs =
-    rw (held w32 {z = c.before.days.given.0.0} c.known-told.given.0.1) (number-found (kind_of c.before.before.before.before.args.kind) (bits_of c.before.before.before.before.args.date) c.before.before.before.before.requires _ (ap counted_as (sym c.before.days.given.1) ∙ c.before.before.before.days-until.ensures)).near
+from_least-requires : tie.Need-from_least-requires
+from_least-requires c κs =
+    rw (held w32 {z = c.in-Days.n} c.in-Days.known_told-1-own.given.0.1) (number-found (kind_of c.args.kind) (bits_of c.args.date) c.requires _ (ap counted_as (sym c.in-Days.is) ∙ c.days_until-days.ensures)).near
 
-returns : tie.Need-returns
+returns : tie.Need-returns-in-Days
 returns c =
-    c.from-least.ensures ∙ held w32 {z = c.before.before.days.given.0.0} c.before.known-told.given.0.1 ∙ (number-found (kind_of c.before.before.before.before.before.args.kind) (bits_of c.before.before.before.before.before.args.date) c.before.before.before.before.before.requires _ (ap counted_as (sym c.before.before.days.given.1) ∙ c.before.before.before.before.days-until.ensures)).is
+    c.from_least.ensures ∙ held w32 {z = c.in-Days.n} c.in-Days.known_told-1-own.given.0.1 ∙ (number-found (kind_of c.args.kind) (bits_of c.args.date) c.requires _ (ap counted_as (sym c.in-Days.is) ∙ c.days_until-days.ensures)).is
 
-returns-2 : tie.Need-returns-2
+returns-2 : tie.Need-returns-in-NotOfKind
 returns-2 c =
-    number-none (kind_of c.before.before.before.args.kind) (bits_of c.before.before.before.args.date) c.before.before.before.requires (ap counted_as (sym c.enum_told.given.1) ∙ c.before.before.days-until.ensures)
+    number-none (kind_of c.args.kind) (bits_of c.args.date) c.requires (ap counted_as (sym c.in-NotOfKind.is) ∙ c.days_until-days.ensures)
 
-pub day-number-spec : {M : Type 1} → statement M
-day-number-spec =
+pub day_number_spec : {M : Type 1} → statement M
+day_number_spec =
     tie.close
-    (tie.spec (λ c κs. search rules) (λ c. search rules) from-least-requires (λ c. search rules) returns returns-2)
+    (tie.spec (λ c κs. search rules) (λ c. search rules) from_least-requires (λ c. search rules) returns returns-2)

@@ -4,11 +4,11 @@ use borrow.Author.Rules.{rules}
 use Rattle.gap_report.proofs.tally.distance.Statement.{statement}
 use Rattle.gap_report.proofs.tally.distance.Tie as tie
 
-returns : tie.Need-returns
-returns c = far-below c.before.args.a c.before.args.b c.if1.true
+returns : tie.Need-returns-then-b-a
+returns c = far-below c.args.a c.args.b c.if-b-a.true
 
-returns-2 : tie.Need-returns-2
-returns-2 c = far-above c.before.args.a c.before.args.b c.if1.false
+returns-2 : tie.Need-returns
+returns-2 c = far-above c.args.a c.args.b c.if-b-a.false
 
-pub distance-spec : {M : Type 1} → statement M
-distance-spec = tie.close (tie.spec (λ c. search rules) returns returns-2)
+pub distance_spec : {M : Type 1} → statement M
+distance_spec = tie.close (tie.spec (λ c. search rules) returns returns-2)

@@ -6,7 +6,7 @@ use Rattle.gap_report.proofs.tally.earlier.Tie as tie
 
 returns : tie.Need-returns
 unfolding earlier
-returns c = (rw c.before.order-of.ensures at c.chosen.ensures.0, c.chosen.ensures.1)
+returns c = (rw c.order_of.ensures at c.chosen.ensures.0, c.chosen.ensures.1)
 
-pub earlier-spec : {M : Type 1} → statement M
-earlier-spec = tie.close (tie.spec (λ c κs. search rules) (λ c κs. search rules) returns)
+pub earlier_spec : {M : Type 1} → statement M
+earlier_spec = tie.close (tie.spec (λ c κs. search rules) (λ c κs. search rules) returns)

@@ -6,7 +6,7 @@ use Rattle.gap_report.proofs.tally.later.Tie as tie
 
 returns : tie.Need-returns
 unfolding later
-returns c = (rw c.before.order-of.ensures at c.chosen.ensures.0, c.chosen.ensures.1)
+returns c = (rw c.order_of.ensures at c.chosen.ensures.0, c.chosen.ensures.1)
 
-pub later-spec : {M : Type 1} → statement M
-later-spec = tie.close (tie.spec (λ c κs. search rules) (λ c κs. search rules) returns)
+pub later_spec : {M : Type 1} → statement M
+later_spec = tie.close (tie.spec (λ c κs. search rules) (λ c κs. search rules) returns)

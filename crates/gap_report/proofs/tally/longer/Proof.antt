@@ -6,13 +6,13 @@ use Rattle.gap_report.specs.Views.{step_as}
 use Rattle.gap_report.proofs.tally.longer.Statement.{statement}
 use Rattle.gap_report.proofs.tally.longer.Tie as tie
 
-returns : tie.Need-returns
+returns : tie.Need-returns-then-t-s
 returns c =
-    sym (longer-one (step_as c.before.before.before.args.s) (step_as c.before.before.before.args.t) c.if1.true)
+    sym (longer-one (step_as c.args.s) (step_as c.args.t) c.if-t-s.true)
 
-returns-2 : tie.Need-returns-2
+returns-2 : tie.Need-returns
 returns-2 c =
-    sym (longer-two (step_as c.before.before.before.args.s) (step_as c.before.before.before.args.t) (omega arith))
+    sym (longer-two (step_as c.args.s) (step_as c.args.t) (omega arith))
 
-pub longer-spec : {M : Type 1} → statement M
-longer-spec = tie.close (tie.spec returns returns-2)
+pub longer_spec : {M : Type 1} → statement M
+longer_spec = tie.close (tie.spec returns returns-2)

@@ -11,34 +11,34 @@ use Rattle.gap_report.proofs.tally.seen.Tie as tie
 
 counted-requires : tie.Need-counted-requires
 counted-requires c κs =
-    (sound-of (kind_of c.before.before.before.before.before.args.kind) _ (ap found_as c.before.before.before.found.given.1) c.before.before.before.before.before.requires.0 (sym c.before.same_kind.ensures ∙ c.if1.true), (c.before.before.before.before.before.requires.1.0, c.before.before.before.before.before.requires.1.1))
+    (sound-of (kind_of c.args.kind) _ (ap found_as c.in-Record.is) c.requires.0 (sym c.same_kind.ensures ∙ c.if-same_kind.true), (c.requires.1.0, c.requires.1.1))
 
-returns : tie.Need-returns
+returns : tie.Need-returns-then-same_kind
 returns c =
-    (c.counted.ensures.0, c.counted.ensures.1 ∙ seen_of (kind_of c.before.before.before.before.before.before.args.kind) (tallied_as c.before.before.before.before.before.before.args.t) c.before.before.before.before.before.before.args.place _ (ap found_as c.before.before.before.before.found.given.1) (sym c.before.before.same_kind.ensures ∙ c.before.if1.true))
+    (c.counted.ensures.0, c.counted.ensures.1 ∙ seen_of (kind_of c.args.kind) (tallied_as c.args.t) c.args.place _ (ap found_as c.in-Record.is) (sym c.same_kind.ensures ∙ c.if-same_kind.true))
 
-returns-2 : tie.Need-returns-2
+returns-2 : tie.Need-returns-else-same_kind
 returns-2 c =
-    (c.before.before.before.before.before.requires.1.1, seen_other (kind_of c.before.before.before.before.before.args.kind) (tallied_as c.before.before.before.before.before.args.t) c.before.before.before.before.before.args.place _ (ap found_as c.before.before.before.found.given.1) (sym c.before.same_kind.ensures ∙ c.if1.false))
+    (c.requires.1.1, seen_other (kind_of c.args.kind) (tallied_as c.args.t) c.args.place _ (ap found_as c.in-Record.is) (sym c.same_kind.ensures ∙ c.if-same_kind.false))
 
-returns-3 : tie.Need-returns-3
+returns-3 : tie.Need-returns-in-BadLength
 returns-3 c =
-    (c.before.before.requires.1.1, seen_none (kind_of c.before.before.args.kind) (tallied_as c.before.before.args.t) c.before.before.args.place bad_length (ap found_as c.enum_told.given.1))
+    (c.requires.1.1, seen_none (kind_of c.args.kind) (tallied_as c.args.t) c.args.place bad_length (ap found_as c.in-BadLength.is))
 
-returns-4 : tie.Need-returns-4
+returns-4 : tie.Need-returns-in-BadVersion
 returns-4 c =
-    (c.before.before.requires.1.1, seen_none (kind_of c.before.before.args.kind) (tallied_as c.before.before.args.t) c.before.before.args.place bad_version (ap found_as c.enum-told2.given.1))
+    (c.requires.1.1, seen_none (kind_of c.args.kind) (tallied_as c.args.t) c.args.place bad_version (ap found_as c.in-BadVersion.is))
 
-returns-5 : tie.Need-returns-5
+returns-5 : tie.Need-returns-in-BadRecord
 returns-5 c =
-    (c.before.before.requires.1.1, seen-bad (kind_of c.before.before.args.kind) (tallied_as c.before.before.args.t) c.before.before.args.place bad_record _ (ap found_as c.enum-told3.given.1))
+    (c.requires.1.1, seen-bad (kind_of c.args.kind) (tallied_as c.args.t) c.args.place bad_record _ (ap found_as c.in-BadRecord.is))
 
-returns-6 : tie.Need-returns-6
+returns-6 : tie.Need-returns-in-NoRecord
 returns-6 c =
-    (c.before.before.requires.1.1, seen_none (kind_of c.before.before.args.kind) (tallied_as c.before.before.args.t) c.before.before.args.place no_record (ap found_as c.enum-told4.given.1))
+    (c.requires.1.1, seen_none (kind_of c.args.kind) (tallied_as c.args.t) c.args.place no_record (ap found_as c.in-NoRecord.is))
 
-pub seen-spec : {M : Type 1} → statement M
-seen-spec =
+pub seen_spec : {M : Type 1} → statement M
+seen_spec =
     tie.close
     (tie.spec
     (λ c. search rules)

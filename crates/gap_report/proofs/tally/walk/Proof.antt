@@ -17,38 +17,38 @@ use Rattle.gap_report.proofs.WalkLaws.{few, sound-at, turn, end, count-more}
 use Rattle.gap_report.proofs.tally.walk.Statement.{statement}
 use Rattle.gap_report.proofs.tally.walk.Tie as tie
 
-abbrev invariant-loop : tie.invariant-loop
+abbrev invariant-loop : tie.invariant-loop-i
 invariant-loop b n kind t₀ i₀ t i =
     (i ≤ n) × ((t.count ≤ i) × (Dated (kind_of kind) t
     × (tally (kind_of kind) nothing (of_book (kind_of kind) b) ≡ tally (kind_of kind) (tallied_as t) (placed_from (both b) (kind_of kind) i (drop i (records_in b))))))
 
-abbrev decreases-loop : tie.decreases-loop
+abbrev decreases-loop : tie.decreases-loop-i
 decreases-loop b n kind t₀ i₀ t i = n - i
 
-loop-holds : tie.Need-loop-init invariant-loop decreases-loop
+loop-holds : tie.Need-loop-i-init invariant-loop decreases-loop
 loop-holds c = (zero-le, (zero-le, ((λ e. absurd (subst T e tt)), refl)))
 
-cast-seen : tie.Need-overflow-cast-seen invariant-loop decreases-loop
+cast-seen : tie.Need-overflow_cast-i invariant-loop decreases-loop
 cast-seen c =
-    let f = few c.before.before.before.args.b.now c.before.before.before.args.n c.before.before.before.requires in omega arith
+    let f = few c.args.b.now c.args.n c.requires in omega arith
 
 entry-requires : tie.Need-entry-requires invariant-loop decreases-loop
-entry-requires c κs = ap given c.before.before.before.requires
+entry-requires c κs = ap given c.requires
 
-seen-requires : tie.Need-seen-requires invariant-loop decreases-loop
+seen-requires : tie.Need-seen-t-requires invariant-loop decreases-loop
 seen-requires c κs =
-    let f = few c.before.before.before.before.args.b.now c.before.before.before.before.args.n c.before.before.before.before.requires in (rw c.entry.ensures (sound-at c.before.before.before.before.args.b.now c.before.before.loop.i), (omega arith, c.before.before.loop.invariant.1.1.0))
+    let f = few c.args.b.now c.args.n c.requires in (rw c.entry.ensures (sound-at c.args.b.now c.loop-i.i), (omega arith, c.loop-i.invariant.1.1.0))
 
-loop-again : tie.Need-loop-preserved invariant-loop decreases-loop
+loop-again : tie.Need-loop-i-preserved invariant-loop decreases-loop
 loop-again c =
-    let k = kind_of c.before.before.before.before.before.args.kind in let x = entry_at (both c.before.before.before.before.before.args.b.now) c.before.before.before.before.before.args.b.now c.before.before.before.loop.i in let seen : tallied_as c.seen.result ≡ tally k (tallied_as c.before.before.before.loop.t) (if_of_kind k c.before.before.before.loop.i x []) = rw (← c.before.entry.ensures) c.seen.ensures.1 in let more = count-more k (tallied_as c.before.before.before.loop.t) c.before.before.before.loop.i x in let count = ap (λ (u : Tallied). u.count) seen in (omega arith, (omega arith, (c.seen.ensures.0, c.before.before.before.loop.invariant.1.1.1 ∙ turn c.before.before.before.before.before.args.b.now c.before.before.before.before.before.args.n c.before.before.before.before.before.requires k (tallied_as c.before.before.before.loop.t) c.before.before.before.loop.i c.before.before.loop-test.true ∙ rw (← seen, add-one c.before.before.before.loop.i) refl)))
+    let k = kind_of c.args.kind in let x = entry_at (both c.args.b.now) c.args.b.now c.loop-i.i in let seen : tallied_as c.seen-t.result ≡ tally k (tallied_as c.loop-i.t) (if_of_kind k c.loop-i.i x []) = rw (← c.entry.ensures) c.seen-t.ensures.1 in let more = count-more k (tallied_as c.loop-i.t) c.loop-i.i x in let count = ap (λ (u : Tallied). u.count) seen in (omega arith, (omega arith, (c.seen-t.ensures.0, c.loop-i.invariant.1.1.1 ∙ turn c.args.b.now c.args.n c.requires k (tallied_as c.loop-i.t) c.loop-i.i c.loop-i-test.true ∙ rw (← seen, add-one c.loop-i.i) refl)))
 
 returns : tie.Need-returns invariant-loop decreases-loop
 returns c =
-    let e : c.before.loop.i ≡ c.before.before.before.args.n = omega arith in (c.before.loop.invariant.1.1.0, sym (c.before.loop.invariant.1.1.1 ∙ rw e (end c.before.before.before.args.b.now c.before.before.before.args.n c.before.before.before.requires (kind_of c.before.before.before.args.kind) (tallied_as c.before.loop.t))))
+    let e : c.loop-i.i ≡ c.args.n = omega arith in (c.loop-i.invariant.1.1.0, sym (c.loop-i.invariant.1.1.1 ∙ rw e (end c.args.b.now c.args.n c.requires (kind_of c.args.kind) (tallied_as c.loop-i.t))))
 
-pub walk-spec : {M : Type 1} → statement M
-walk-spec =
+pub walk_spec : {M : Type 1} → statement M
+walk_spec =
     tie.close
     (tie.spec
     invariant-loop

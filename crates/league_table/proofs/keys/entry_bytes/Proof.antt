@@ -8,7 +8,7 @@ use Rattle.league_table.proofs.keys.entry_bytes.Tie as tie
 
 returns : tie.Need-returns
 unfolding entry_bytes
-returns c = rw (three-bytes-of c.before.args.key (omega arith), c.kind-code.ensures)
+returns c = rw (three-bytes-of c.args.key (omega arith), c.kind_code.ensures)
 
-pub entry-bytes-spec : {M : Type 1} → statement M
-entry-bytes-spec = tie.close (tie.spec (λ c. search rules) (λ c. search rules) (λ c. search rules) (λ c κs. search rules) returns)
+pub entry_bytes_spec : {M : Type 1} → statement M
+entry_bytes_spec = tie.close (tie.spec (λ c. search rules) (λ c. search rules) (λ c. search rules) (λ c κs. search rules) returns)

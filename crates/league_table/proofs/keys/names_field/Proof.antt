@@ -4,11 +4,11 @@ use borrow.Author.Rules.{rules}
 use Rattle.league_table.proofs.keys.names_field.Statement.{statement}
 use Rattle.league_table.proofs.keys.names_field.Tie as tie
 
-returns : tie.Need-returns
-returns c = rw (sym c.before.before.is-league.ensures ∙ c.before.if1.true) c.is_field.ensures
+returns : tie.Need-returns-then-is_league
+returns c = rw (sym c.is_league.ensures ∙ c.if-is_league.true) c.is_field.ensures
 
-returns-2 : tie.Need-returns-2
-returns-2 c = rw (sym c.before.is-league.ensures ∙ c.if1.false)
+returns-2 : tie.Need-returns
+returns-2 c = rw (sym c.is_league.ensures ∙ c.if-is_league.false)
 
-pub names-field-spec : {M : Type 1} → statement M
-names-field-spec = tie.close (tie.spec (λ c κs. search rules) (λ c κs. search rules) returns returns-2)
+pub names_field_spec : {M : Type 1} → statement M
+names_field_spec = tie.close (tie.spec (λ c κs. search rules) (λ c κs. search rules) returns returns-2)

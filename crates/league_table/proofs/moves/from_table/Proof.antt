@@ -9,40 +9,40 @@ use borrow.Author.Rules.{rules}
 use Rattle.league_table.proofs.moves.from_table.Statement.{statement}
 use Rattle.league_table.proofs.moves.from_table.Tie as tie
 
-returns : tie.Need-returns
+returns : tie.Need-returns-then-n-gt-SHARE
 returns c =
-    let a = c.before.before.before.before.before.before.before.args in moved-over a.from.now a.to.now (ap checked_as (sym c.before.before.checked.given.1) ∙ c.before.before.before.before.check.ensures) (omega arith)
+    let a = c.args in moved-over a.from.now a.to.now (ap checked_as (sym c.in-Entries.is) ∙ c.check-checked.ensures) (omega arith)
 
-returns-2 : tie.Need-returns-2
+returns-2 : tie.Need-returns-then-to-n
 returns-2 c =
-    let a = c.before.before.before.before.before.before.before.before.args in moved-short a.from.now a.to.now (ap checked_as (sym c.before.before.before.checked.given.1) ∙ c.before.before.before.before.before.check.ensures) (omega arith) (omega arith)
+    let a = c.args in moved-short a.from.now a.to.now (ap checked_as (sym c.in-Entries.is) ∙ c.check-checked.ensures) (omega arith) (omega arith)
 
-put-all-requires : tie.Need-put-all-requires
-put-all-requires c κs =
-    let a = c.before.before.before.before.before.before.before.before.before.before.before.before.before.args in (fits a.from.now a.to.now (ap checked_as (sym c.before.before.before.before.before.before.before.before.checked.given.1) ∙ c.before.before.before.before.before.before.before.before.before.before.check.ensures), rw length-set (omega (arith, c.before.before.before.put-length.auto, c.before.before.before.before.before.if2.false)))
+put_all-requires : tie.Need-put_all-requires
+put_all-requires c κs =
+    let a = c.args in (fits a.from.now a.to.now (ap checked_as (sym c.in-Entries.is) ∙ c.check-checked.ensures), rw length-set (omega (arith, c.put_length.auto, c.if-to-n.false)))
 
-same_length : tie.Need-same-length
+same_length : tie.Need-shape_of-to
 same_length c =
-    let a = c.before.before.before.before.before.before.before.before.before.before.before.before.before.before.before.before.args in omega (arith, c.before.before.put_all_lem.auto, c.before.before.before.before.before.before.put-length.auto, length-set c.before.before.before.before.before.before.put-length.new.0 4 2)
+    let a = c.args in omega (arith, c.put_all.auto, c.put_length.auto, length-set c.put_length.new.b 4 2)
 
-returns-3 : tie.Need-returns-3
+returns-3 : tie.Need-returns-else-to-n
 returns-3 c =
-    let a = c.before.before.before.before.before.before.before.before.before.before.before.before.before.before.before.before.args in moved-so a.from.now a.to.now (ap checked_as (sym c.before.before.before.before.before.before.before.before.before.before.before.checked.given.1) ∙ c.before.before.before.before.before.before.before.before.before.before.before.before.before.check.ensures) (omega arith) (omega (arith, c.before.before.before.before.before.before.before.before.if2.false)) c.before.before.before.before.before.before.put-length.ensures c.before.before.put_all_lem.ensures
+    let a = c.args in moved-so a.from.now a.to.now (ap checked_as (sym c.in-Entries.is) ∙ c.check-checked.ensures) (omega arith) (omega (arith, c.if-to-n.false)) c.put_length.ensures c.put_all.ensures
 
-returns-4 : tie.Need-returns-4
+returns-4 : tie.Need-returns-in-BadLength
 returns-4 c =
-    let a = c.before.before.before.before.before.args in moved-not a.from.now a.to.now (ap checked_as (sym c.enum_told.given.1) ∙ c.before.before.check.ensures)
+    let a = c.args in moved-not a.from.now a.to.now (ap checked_as (sym c.in-BadLength.is) ∙ c.check-checked.ensures)
 
-returns-5 : tie.Need-returns-5
+returns-5 : tie.Need-returns-in-BadVersion
 returns-5 c =
-    let a = c.before.before.before.before.before.args in moved-not a.from.now a.to.now (ap checked_as (sym c.enum-told2.given.1) ∙ c.before.before.check.ensures)
+    let a = c.args in moved-not a.from.now a.to.now (ap checked_as (sym c.in-BadVersion.is) ∙ c.check-checked.ensures)
 
-returns-6 : tie.Need-returns-6
+returns-6 : tie.Need-returns-in-BadEntry
 returns-6 c =
-    let a = c.before.before.before.before.before.args in moved-not a.from.now a.to.now (ap checked_as (sym c.enum-told3.given.1) ∙ c.before.before.check.ensures)
+    let a = c.args in moved-not a.from.now a.to.now (ap checked_as (sym c.in-BadEntry.is) ∙ c.check-checked.ensures)
 
-pub from-table-spec : {M : Type 1} → statement M
-from-table-spec =
+pub from_table_spec : {M : Type 1} → statement M
+from_table_spec =
     tie.close
     (tie.spec
     (λ c κs. search rules)
@@ -55,7 +55,7 @@ from-table-spec =
     (λ c. search rules)
     (λ c κs. search rules)
     (λ c. search rules)
-    put-all-requires
+    put_all-requires
     (λ c. search rules)
     (λ c. search rules)
     (λ c. search rules)

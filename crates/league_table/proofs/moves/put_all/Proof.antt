@@ -13,32 +13,32 @@ use Rattle.league_table.proofs.Moved.{first-long}
 use Rattle.league_table.proofs.moves.put_all.Statement.{statement}
 use Rattle.league_table.proofs.moves.put_all.Tie as tie
 
-abbrev invariant-loop : tie.invariant-loop
+abbrev invariant-loop : tie.invariant-loop-i
 invariant-loop from to₀ n i₀ to i = (i ≤ n) × (length to ≡ length to₀) × (to ≡ sets to₀ head_size (joined (map of_first (pieces i 3 (drop head_size from)))))
 
-abbrev decreases-loop : tie.decreases-loop
+abbrev decreases-loop : tie.decreases-loop-i
 decreases-loop from to₀ n i₀ to i = n - i
 
-loop-holds : tie.Need-loop-init invariant-loop decreases-loop
+loop-holds : tie.Need-loop-i-init invariant-loop decreases-loop
 loop-holds c =
-    let a = c.before.before.args in (omega arith, refl, ones_none of_first 3 4 first-long a.from.now a.to.now)
+    let a = c.args in (omega arith, refl, ones_none of_first 3 4 first-long a.from.now a.to.now)
 
-put-first-requires : tie.Need-put-first-requires invariant-loop decreases-loop
-put-first-requires c κs = omega (arith, c.before.before.before.before.before.requires, c.before.before.loop.invariant.1)
+put_first-requires : tie.Need-put_first-requires invariant-loop decreases-loop
+put_first-requires c κs = omega (arith, c.requires, c.loop-i.invariant.1)
 
-loop-again : tie.Need-loop-preserved invariant-loop decreases-loop
+loop-again : tie.Need-loop-i-preserved invariant-loop decreases-loop
 loop-again c =
-    let a = c.before.before.before.before.before.before.before.before.args in let l = c.before.before.before.before.before.loop in (omega arith, omega (arith, c.before.before.put_first.auto, l.invariant.1), ones-more of_first 3 4 first-long a.from.now l.i a.to.now _ _ (omega arith) l.invariant.2 c.before.before.put_first.ensures)
+    let a = c.args in let l = c.loop-i in (omega arith, omega (arith, c.put_first.auto, l.invariant.1), ones-more of_first 3 4 first-long a.from.now l.i a.to.now _ _ (omega arith) l.invariant.2 c.put_first.ensures)
 
-same_length : tie.Need-same-length invariant-loop decreases-loop
-same_length c = c.before.loop.invariant.1
+same_length : tie.Need-shape_of-to invariant-loop decreases-loop
+same_length c = c.loop-i.invariant.1
 
 returns : tie.Need-returns invariant-loop decreases-loop
 returns c =
-    let l = c.before.loop in let e : l.i ≡ c.before.before.before.before.args.n = omega arith in rw e at l.invariant.2
+    let l = c.loop-i in let e : l.i ≡ c.args.n = omega arith in rw e at l.invariant.2
 
-pub put-all-spec : {M : Type 1} → statement M
-put-all-spec =
+pub put_all_spec : {M : Type 1} → statement M
+put_all_spec =
     tie.close
     (tie.spec
     invariant-loop
@@ -48,7 +48,7 @@ put-all-spec =
     (λ c. omega arith)
     (λ c. omega arith)
     (λ c. omega arith)
-    put-first-requires
+    put_first-requires
     (λ c. omega arith)
     (λ c. omega arith)
     loop-again

@@ -7,20 +7,20 @@ use borrow.Author.Rules.{rules}
 use Rattle.league_table.proofs.own.after.Statement.{statement}
 use Rattle.league_table.proofs.own.after.Tie as tie
 
-add-t6 : tie.Need-overflow-add-t6
+add-t6 : tie.Need-overflow_add-result
 add-t6 c =
-    let a = c.before.before.before.args in omega (arith, subst (λ x. Countable a.own_val a.n (changed_as x)) c.before.changed.given.1 c.before.before.before.requires)
+    let a = c.args in omega (arith, subst (λ x. Countable a.own a.n (changed_as x)) c.in-Entries.is c.requires)
 
-sub-t7 : tie.Need-overflow-sub-t7
+sub-t7 : tie.Need-overflow_sub-result
 sub-t7 c =
-    let a = c.before.before.before.args in omega (arith, subst (λ x. Countable a.own_val a.n (changed_as x)) c.before.changed.given.1 c.before.before.before.requires)
+    let a = c.args in omega (arith, subst (λ x. Countable a.own a.n (changed_as x)) c.in-Entries.is c.requires)
 
-returns : tie.Need-returns
+returns : tie.Need-returns-in-Entries
 returns c =
-    let a = c.before.before.before.args in ap (λ x. own_after a.own_val a.n (changed_as x)) (sym c.before.changed.given.1)
+    let a = c.args in ap (λ x. own_after a.own a.n (changed_as x)) (sym c.in-Entries.is)
 
-pub after-spec : {M : Type 1} → statement M
-after-spec =
+pub after_spec : {M : Type 1} → statement M
+after_spec =
     tie.close
     (tie.spec
     (λ c. search rules)

@@ -6,13 +6,13 @@ use borrow.Author.Rules.{rules}
 use Rattle.league_table.proofs.own.count.Statement.{statement}
 use Rattle.league_table.proofs.own.count.Tie as tie
 
-sub-result : tie.Need-overflow-sub-result
+sub-result : tie.Need-overflow_sub-result
 sub-result c =
-    let a = c.before.before.before.before.args in omega (arith, rw c.before.key-for.ensures at c.place_of.ensures, c.before.before.start.ensures, places a.league (entries_in 3 a.n a.b.now))
+    let a = c.args in omega (arith, rw c.key_for-past.ensures at c.place_of.ensures, c.start-first.ensures, places a.league (entries_in 3 a.n a.b.now))
 
 returns : tie.Need-returns
 returns c =
-    let a = c.before.before.before.before.args in omega (arith, rw c.before.key-for.ensures at c.place_of.ensures, c.before.before.start.ensures, places a.league (entries_in 3 a.n a.b.now))
+    let a = c.args in omega (arith, rw c.key_for-past.ensures at c.place_of.ensures, c.start-first.ensures, places a.league (entries_in 3 a.n a.b.now))
 
 pub count_spec : {M : Type 1} → statement M
 count_spec =

@@ -8,11 +8,11 @@ use borrow.Author.Rules.{rules}
 use Rattle.league_table.proofs.own.without_league.Statement.{statement}
 use Rattle.league_table.proofs.own.without_league.Tie as tie
 
-returns : tie.Need-returns
-returns c = ap (λ x. entry_as x then λ (d : Declared). Gives (own_declared d)) (sym c.before.entry.given.1)
+returns : tie.Need-returns-in-Field
+returns c = ap (λ x. entry_as x then λ (d : Declared). Gives (own_declared d)) (sym c.in-Field.is)
 
-pub without-league-spec : {M : Type 1} → statement M
-without-league-spec =
+pub without_league_spec : {M : Type 1} → statement M
+without_league_spec =
     tie.close
     (tie.spec
     (λ c. search rules)

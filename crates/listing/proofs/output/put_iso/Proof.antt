@@ -7,20 +7,20 @@ use Rattle.formatter.proofs.Texts.{fits}
 use Rattle.listing.proofs.output.put_iso.Statement.{statement}
 use Rattle.listing.proofs.output.put_iso.Tie as tie
 
-returns : tie.Need-returns
+returns : tie.Need-returns-in-Length
 returns c =
-    let w = fits (kind_of c.before.before.before.before.before.before.before.before.args.kind) (bits_of c.before.before.before.before.before.before.before.before.args.date) (iso (kind_of c.before.before.before.before.before.before.before.before.args.kind)) c.before.before.before.before.before.before.before.before.args.out.now c.before.before.before.before.before.iso-8601.new.1.1.0 c.before.before.before.before.before.iso-8601.result c.before.before.before.before.before.before.before.before.requires.1 c.before.before.before.before.before.before.before.before.requires.0 (λ p. (text-lengths (kind_of c.before.before.before.before.before.before.before.before.args.kind) _ p).iso-length.1) c.before.before.before.before.before.iso-8601.ensures in (rw c.before.text.given.1 at w.answered, w.holds)
+    let w = fits (kind_of c.args.kind) (bits_of c.args.date) (iso (kind_of c.args.kind)) c.args.out.now c.iso_8601-text.new.out c.iso_8601-text.result c.requires.1 c.requires.0 (λ p. (text-lengths (kind_of c.args.kind) _ p).iso-length.1) c.iso_8601-text.ensures in (rw c.in-Length.is at w.answered, w.holds)
 
-returns-2 : tie.Need-returns-2
+returns-2 : tie.Need-returns-in-NotOfKind
 returns-2 c =
-    let w = fits (kind_of c.before.before.before.before.before.before.before.args.kind) (bits_of c.before.before.before.before.before.before.before.args.date) (iso (kind_of c.before.before.before.before.before.before.before.args.kind)) c.before.before.before.before.before.before.before.args.out.now c.before.before.before.before.iso-8601.new.1.1.0 c.before.before.before.before.iso-8601.result c.before.before.before.before.before.before.before.requires.1 c.before.before.before.before.before.before.before.requires.0 (λ p. (text-lengths (kind_of c.before.before.before.before.before.before.before.args.kind) _ p).iso-length.1) c.before.before.before.before.iso-8601.ensures in (rw c.enum_told.given.1 at w.answered, w.holds)
+    let w = fits (kind_of c.args.kind) (bits_of c.args.date) (iso (kind_of c.args.kind)) c.args.out.now c.iso_8601-text.new.out c.iso_8601-text.result c.requires.1 c.requires.0 (λ p. (text-lengths (kind_of c.args.kind) _ p).iso-length.1) c.iso_8601-text.ensures in (rw c.in-NotOfKind.is at w.answered, w.holds)
 
-returns-3 : tie.Need-returns-3
+returns-3 : tie.Need-returns-in-Short
 returns-3 c =
-    let w = fits (kind_of c.before.before.before.before.before.before.before.args.kind) (bits_of c.before.before.before.before.before.before.before.args.date) (iso (kind_of c.before.before.before.before.before.before.before.args.kind)) c.before.before.before.before.before.before.before.args.out.now c.before.before.before.before.iso-8601.new.1.1.0 c.before.before.before.before.iso-8601.result c.before.before.before.before.before.before.before.requires.1 c.before.before.before.before.before.before.before.requires.0 (λ p. (text-lengths (kind_of c.before.before.before.before.before.before.before.args.kind) _ p).iso-length.1) c.before.before.before.before.iso-8601.ensures in (rw c.enum-told2.given.1 at w.answered, w.holds)
+    let w = fits (kind_of c.args.kind) (bits_of c.args.date) (iso (kind_of c.args.kind)) c.args.out.now c.iso_8601-text.new.out c.iso_8601-text.result c.requires.1 c.requires.0 (λ p. (text-lengths (kind_of c.args.kind) _ p).iso-length.1) c.iso_8601-text.ensures in (rw c.in-Short.is at w.answered, w.holds)
 
-pub put-iso-spec : {M : Type 1} → statement M
-put-iso-spec =
+pub put_iso_spec : {M : Type 1} → statement M
+put_iso_spec =
     tie.close
     (tie.spec
     (λ c κs. search rules)

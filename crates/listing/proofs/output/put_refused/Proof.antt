@@ -11,32 +11,31 @@ use Rattle.rules.proofs.OnSpelling.WriteLaws.{wrote-byte-tail, wrote-byte, wrote
 use Rattle.listing.proofs.output.put_refused.Statement.{statement}
 use Rattle.listing.proofs.output.put_refused.Tie as tie
 
-slice-write-out-2 : tie.Need-slice-write-out-2
-slice-write-out-2 c =
-    let w = wrote-byte-tail c.before.before.before.before.before.before.args.out.now (bytes " refused ") c.before.before.before.before.before.before.args.front 10 refl (omega arith) c.before.before.copy.ensures in let e = wrote-length w in omega arith
+slice_write-out-2 : tie.Need-bounds-out-10
+slice_write-out-2 c =
+    let w = wrote-byte-tail c.args.out.now (bytes " refused ") c.args.front 10 refl (omega arith) c.copy.ensures in let e = wrote-length w in omega arith
 
-slice-write-out-3 : tie.Need-slice-write-out-3
-slice-write-out-3 c =
-    let w = wrote-byte-tail c.before.before.before.before.before.before.args.out.now (bytes " refused ") c.before.before.before.before.before.before.args.front 10 refl (omega arith) c.before.before.copy.ensures in let e = wrote-length (wrote-byte (digit c.before.before.before.before.before.before.args.n) w (omega arith)) in omega arith
+slice_write-out-3 : tie.Need-bounds-out-11
+slice_write-out-3 c =
+    let w = wrote-byte-tail c.args.out.now (bytes " refused ") c.args.front 10 refl (omega arith) c.copy.ensures in let e = wrote-length (wrote-byte (digit c.args.n) w (omega arith)) in omega arith
 
 returns : tie.Need-returns
 returns c =
-    let w = wrote-byte-tail c.before.before.before.before.before.before.args.out.now (bytes " refused ") c.before.before.before.before.before.before.args.front 10 refl (omega arith) c.before.before.copy.ensures in
-    let all = wrote-byte 10 (wrote-byte (digit c.before.before.before.before.before.before.args.n) w (omega arith)) (omega arith) in
-    ((rw (one-digit _ c.before.before.before.before.before.before.requires.0), lit≤ tt), wrote-placed all ∙ placed-as c.before.before.before.before.before.before.args.out.now (refusal-line _ _ c.before.before.before.before.before.before.requires.0))
+    let w = wrote-byte-tail c.args.out.now (bytes " refused ") c.args.front 10 refl (omega arith) c.copy.ensures in
+    let all = wrote-byte 10 (wrote-byte (digit c.args.n) w (omega arith)) (omega arith) in
+    ((rw (one-digit _ c.requires.0), lit≤ tt), wrote-placed all ∙ placed-as c.args.out.now (refusal-line _ _ c.requires.0))
 
-pub put-refused-spec : {M : Type 1} → statement M
-put-refused-spec =
+pub put_refused_spec : {M : Type 1} → statement M
+put_refused_spec =
     tie.close
     (tie.spec
-    (λ c. search rules)
     (λ c. search rules)
     (λ c. search rules)
     (λ c. search rules)
     (λ c κs. search rules)
     (λ c. search rules)
     (λ c. search rules)
-    slice-write-out-2
-    slice-write-out-3
+    slice_write-out-2
+    slice_write-out-3
     (λ c. search rules)
     returns)

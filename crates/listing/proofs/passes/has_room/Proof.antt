@@ -9,12 +9,12 @@ use borrow.Author.Rules.{rules}
 use Rattle.listing.proofs.passes.has_room.Statement.{statement}
 use Rattle.listing.proofs.passes.has_room.Tie as tie
 
-returns : tie.Need-returns
+returns : tie.Need-returns-then-s-room
 returns c =
-    let h = printed-long c.before.before.args.s.now in sym (le-leb (length (printed c.before.before.args.s.now)) c.before.before.args.room (omega (arith, h, c.if1.true)))
+    let h = printed-long c.args.s.now in sym (le-leb (length (printed c.args.s.now)) c.args.room (omega (arith, h, c.if-s-room.true)))
 
-returns-2 : tie.Need-returns-2
+returns-2 : tie.Need-returns
 returns-2 c = rw c.measure.ensures
 
-pub has-room-spec : {M : Type 1} → statement M
-has-room-spec = tie.close (tie.spec (λ c. search rules) returns (λ c κs. search rules) returns-2)
+pub has_room_spec : {M : Type 1} → statement M
+has_room_spec = tie.close (tie.spec (λ c. search rules) returns (λ c κs. search rules) returns-2)

@@ -13,39 +13,39 @@ use Rattle.listing.proofs.PassLaws.{line_at, measured, printed-none}
 use Rattle.listing.proofs.passes.measure.Statement.{statement}
 use Rattle.listing.proofs.passes.measure.Tie as tie
 
-abbrev invariant-loop : tie.invariant-loop
+abbrev invariant-loop : tie.invariant-loop-at
 invariant-loop s room₀ total₀ at₀ room total at = (total + length (printed (drop at s)) ≡ length (printed s)) × (length room ≡ 40)
 
-abbrev decreases-loop : tie.decreases-loop
+abbrev decreases-loop : tie.decreases-loop-at
 decreases-loop s room₀ total₀ at₀ room total at = length s - at
 
-loop-holds : tie.Need-loop-init invariant-loop decreases-loop
+loop-holds : tie.Need-loop-at-init invariant-loop decreases-loop
 loop-holds c = (omega arith, refl)
 
 -- the line that begins at the place, and the lines after its end
-line : (c : tie.After-find invariant-loop decreases-loop) →
-    let s = c.before.before.before.before.args.s.now in
-    let at = c.before.before.loop.at in
-    lines (drop at s) ≡ take (c.find.result - at) (drop at s) ∷ lines (drop (c.find.result + 1) s)
-line c = line_at _ _ _ c.before.loop-test.true c.find.ensures.0
+line : (c : tie.After-find-end invariant-loop decreases-loop) →
+    let s = c.args.s.now in
+    let at = c.loop-at.at in
+    lines (drop at s) ≡ take (c.find-end.result - at) (drop at s) ∷ lines (drop (c.find-end.result + 1) s)
+line c = line_at _ _ _ c.loop-at-test.true c.find-end.ensures.0
 
-build-requires : tie.Need-build-requires invariant-loop decreases-loop
-build-requires c κs = omega (arith, c.before.before.before.before.loop.invariant.1)
+build-requires : tie.Need-build-total-requires invariant-loop decreases-loop
+build-requires c κs = omega (arith, c.loop-at.invariant.1)
 
-add_total : tie.Need-overflow-add-total invariant-loop decreases-loop
+add_total : tie.Need-overflow_add-total invariant-loop decreases-loop
 add_total c =
-    let h = printed-long c.before.before.before.before.before.before.before.before.args.s.now in let e = measured _ _ _ c.before.before.before.before.before.before.loop.total c.before.build.result _ (line c.before.before.before.before) c.before.build.ensures.0.0 c.before.before.before.before.before.before.loop.invariant.0 in omega (arith, h, e, c.before.before.before.before.before.before.before.before.requires)
+    let h = printed-long c.args.s.now in let e = measured _ _ _ c.loop-at.total c.build-total.result _ (line c.before.before.before.before) c.build-total.ensures.0.0 c.loop-at.invariant.0 in omega (arith, h, e, c.requires)
 
-loop-again : tie.Need-loop-preserved invariant-loop decreases-loop
+loop-again : tie.Need-loop-at-preserved invariant-loop decreases-loop
 loop-again c =
-    (measured _ _ _ c.before.before.before.before.before.before.loop.total c.before.build.result _ (line c.before.before.before.before) c.before.build.ensures.0.0 c.before.before.before.before.before.before.loop.invariant.0, c.before.build.auto.1.0 ∙ c.before.before.before.before.before.before.loop.invariant.1)
+    (measured _ _ _ c.loop-at.total c.build-total.result _ (line c.before.before.before.before) c.build-total.ensures.0.0 c.loop-at.invariant.0, c.build-total.auto.out ∙ c.loop-at.invariant.1)
 
 returns : tie.Need-returns invariant-loop decreases-loop
 returns c =
-    let e = printed-none c.before.before.before.args.s.now c.before.loop.at c.loop-test.false in omega (arith, ap length e, c.before.loop.invariant.0)
+    let e = printed-none c.args.s.now c.loop-at.at c.loop-at-test.false in omega (arith, ap length e, c.loop-at.invariant.0)
 
-pub measure-spec : {M : Type 1} → statement M
-measure-spec =
+pub measure_spec : {M : Type 1} → statement M
+measure_spec =
     tie.close
     (tie.spec
     invariant-loop

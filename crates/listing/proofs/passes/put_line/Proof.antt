@@ -5,16 +5,16 @@ use Rattle.listing.proofs.PassLaws.{whole}
 use Rattle.listing.proofs.passes.put_line.Statement.{statement}
 use Rattle.listing.proofs.passes.put_line.Tie as tie
 
-returns : tie.Need-returns
+returns : tie.Need-returns-in-Length
 returns c =
-    let w = whole (line_output c.before.before.before.before.before.before.before.before.before.args.s.now) c.before.before.before.before.before.before.before.before.before.args.out.now c.before.before.before.before.before.line.result c.before.before.before.before.before.before.before.before.before.requires c.before.before.before.before.before.line.ensures.0 c.before.before.before.before.before.line.ensures.1.0 in (rw c.before.answer.given.1 at w.answered, w.holds)
+    let w = whole (line_output c.args.s.now) c.args.out.now c.line-answer.result c.requires c.line-answer.ensures.0 c.line-answer.ensures.1.0 in (rw c.in-Length.is at w.answered, w.holds)
 
-returns-2 : tie.Need-returns-2
+returns-2 : tie.Need-returns-in-Short
 returns-2 c =
-    let w = whole (line_output c.before.before.before.before.before.before.before.before.args.s.now) c.before.before.before.before.before.before.before.before.args.out.now c.before.before.before.before.line.result c.before.before.before.before.before.before.before.before.requires c.before.before.before.before.line.ensures.0 c.before.before.before.before.line.ensures.1.0 in (rw c.enum_told.given.1 at w.answered, w.holds)
+    let w = whole (line_output c.args.s.now) c.args.out.now c.line-answer.result c.requires c.line-answer.ensures.0 c.line-answer.ensures.1.0 in (rw c.in-Short.is at w.answered, w.holds)
 
-pub put-line-spec : {M : Type 1} → statement M
-put-line-spec =
+pub put_line_spec : {M : Type 1} → statement M
+put_line_spec =
     tie.close
     (tie.spec
     (λ c κs. search rules)

@@ -13,50 +13,50 @@ use Rattle.listing.proofs.PassLaws.{line_at, measured, Left, Step, left_step, le
 use Rattle.listing.proofs.passes.put_lines.Statement.{statement}
 use Rattle.listing.proofs.passes.put_lines.Tie as tie
 
-abbrev invariant-loop : tie.invariant-loop
+abbrev invariant-loop : tie.invariant-loop-from
 invariant-loop s out₀ from₀ filled₀ out from filled =
     Left (printed (drop from s)) filled out (placed (printed s) out₀) × (length out ≡ length out₀) × (filled + length (printed (drop from s)) ≡ length (printed s))
 
-abbrev decreases-loop : tie.decreases-loop
+abbrev decreases-loop : tie.decreases-loop-from
 decreases-loop s out₀ from₀ filled₀ out from filled = length s - from
 
-loop-holds : tie.Need-loop-init invariant-loop decreases-loop
-loop-holds c = ((refl, omega (arith, c.before.before.requires)), refl, omega arith)
+loop-holds : tie.Need-loop-from-init invariant-loop decreases-loop
+loop-holds c = ((refl, omega (arith, c.requires)), refl, omega arith)
 
 -- the line that begins at the place, and the lines after its end
-line : (c : tie.After-find invariant-loop decreases-loop) →
-    let s = c.before.before.before.before.before.args.s.now in
-    let from = c.before.before.loop.from in
-    lines (drop from s) ≡ take (c.find.result - from) (drop from s) ∷ lines (drop (c.find.result + 1) s)
-line c = line_at _ _ _ c.before.loop-test.true c.find.ensures.0
+line : (c : tie.After-find-end invariant-loop decreases-loop) →
+    let s = c.args.s.now in
+    let from = c.loop-from.from in
+    lines (drop from s) ≡ take (c.find-end.result - from) (drop from s) ∷ lines (drop (c.find-end.result + 1) s)
+line c = line_at _ _ _ c.loop-from-test.true c.find-end.ensures.0
 
-sub-put-line-2 : tie.Need-overflow-sub-put-line-2 invariant-loop decreases-loop
-sub-put-line-2 c = omega (arith, c.before.before.before.loop.invariant.0.1)
+sub-put_line-2 : tie.Need-slice_bounds-put_line-count-in-loop-from invariant-loop decreases-loop
+sub-put_line-2 c = omega (arith, c.loop-from.invariant.0.1)
 
-part-put-line-start-2 : tie.Need-slice-bounds-put-line-start-2 invariant-loop decreases-loop
-part-put-line-start-2 c = omega (arith, c.before.before.before.loop.invariant.0.1)
+part-put_line-start-2 : tie.Need-slice_bounds-put_line-start-in-loop-from invariant-loop decreases-loop
+part-put_line-start-2 c = omega (arith, c.loop-from.invariant.0.1)
 
-put-line-requires : tie.Need-put-line-requires invariant-loop decreases-loop
-put-line-requires c κs =
-    left-room c.before.before.before.before.loop.out (line_output (take (c.before.before.find.result - c.before.before.before.before.loop.from) (drop c.before.before.before.before.loop.from c.before.before.before.before.before.before.before.args.s.now))) (printed (drop (c.before.before.find.result + 1) c.before.before.before.before.before.before.before.args.s.now)) c.before.before.before.before.loop.filled (printed-first _ _ _ (line c.before.before)) c.before.before.before.before.loop.invariant.0
+put_line-requires : tie.Need-put_line-filled-requires invariant-loop decreases-loop
+put_line-requires c κs =
+    left-room c.loop-from.out (line_output (take (c.find-end.result - c.loop-from.from) (drop c.loop-from.from c.args.s.now))) (printed (drop (c.find-end.result + 1) c.args.s.now)) c.loop-from.filled (printed-first _ _ _ (line c.before.before)) c.loop-from.invariant.0
 
-add-filled : tie.Need-overflow-add-filled invariant-loop decreases-loop
+add-filled : tie.Need-overflow_add-filled invariant-loop decreases-loop
 add-filled c =
-    let k = step_kept {text = line_output (take (c.before.before.before.before.before.find.result - c.before.before.before.before.before.before.before.loop.from) (drop c.before.before.before.before.before.before.before.loop.from c.before.before.before.before.before.before.before.before.before.before.args.s.now))} {rest = printed (drop (c.before.before.before.before.before.find.result + 1) c.before.before.before.before.before.before.before.before.before.before.args.s.now)} (record { begins = printed-first _ _ _ (line c.before.before.before.before.before); long = c.before.before.put-line.ensures.0; wrote = c.before.before.put-line.ensures.1; left = c.before.before.before.before.before.before.before.loop.invariant.0 }) in omega (arith, k.1)
+    let k = step_kept {text = line_output (take (c.find-end.result - c.loop-from.from) (drop c.loop-from.from c.args.s.now))} {rest = printed (drop (c.find-end.result + 1) c.args.s.now)} (record { begins = printed-first _ _ _ (line c.before.before.before.before.before); long = c.put_line-filled.ensures.0; wrote = c.put_line-filled.ensures.1; left = c.loop-from.invariant.0 }) in omega (arith, k.1)
 
-loop-again : tie.Need-loop-preserved invariant-loop decreases-loop
+loop-again : tie.Need-loop-from-preserved invariant-loop decreases-loop
 loop-again c =
-    let s : Step c.before.before.before.before.before.before.before.loop.out c.before.before.put-line.new.1.0 (line_output (take (c.before.before.before.before.before.find.result - c.before.before.before.before.before.before.before.loop.from) (drop c.before.before.before.before.before.before.before.loop.from c.before.before.before.before.before.before.before.before.before.before.args.s.now))) (printed (drop (c.before.before.before.before.before.find.result + 1) c.before.before.before.before.before.before.before.before.before.before.args.s.now)) _ _ c.before.before.before.before.before.before.before.loop.filled c.before.before.put-line.result = record { begins = printed-first _ _ _ (line c.before.before.before.before.before); long = c.before.before.put-line.ensures.0; wrote = c.before.before.put-line.ensures.1; left = c.before.before.before.before.before.before.before.loop.invariant.0 } in (left_step s, (step_kept s).0 ∙ c.before.before.before.before.before.before.before.loop.invariant.1, measured _ _ _ c.before.before.before.before.before.before.before.loop.filled c.before.before.put-line.result _ (line c.before.before.before.before.before) c.before.before.put-line.ensures.0 c.before.before.before.before.before.before.before.loop.invariant.2)
+    let s : Step c.loop-from.out c.put_line-filled.new.out (line_output (take (c.find-end.result - c.loop-from.from) (drop c.loop-from.from c.args.s.now))) (printed (drop (c.find-end.result + 1) c.args.s.now)) _ _ c.loop-from.filled c.put_line-filled.result = record { begins = printed-first _ _ _ (line c.before.before.before.before.before); long = c.put_line-filled.ensures.0; wrote = c.put_line-filled.ensures.1; left = c.loop-from.invariant.0 } in (left_step s, (step_kept s).0 ∙ c.loop-from.invariant.1, measured _ _ _ c.loop-from.filled c.put_line-filled.result _ (line c.before.before.before.before.before) c.put_line-filled.ensures.0 c.loop-from.invariant.2)
 
-same_length : tie.Need-same-length invariant-loop decreases-loop
-same_length c = c.before.loop.invariant.1
+same_length : tie.Need-shape_of-out invariant-loop decreases-loop
+same_length c = c.loop-from.invariant.1
 
 returns : tie.Need-returns invariant-loop decreases-loop
 returns c =
-    let e = printed-none c.before.before.before.before.args.s.now c.before.loop.from c.loop-test.false in (omega (arith, ap length e, c.before.loop.invariant.2), left-none _ _ _ e c.before.loop.invariant.0)
+    let e = printed-none c.args.s.now c.loop-from.from c.loop-from-test.false in (omega (arith, ap length e, c.loop-from.invariant.2), left-none _ _ _ e c.loop-from.invariant.0)
 
-pub put-lines-spec : {M : Type 1} → statement M
-put-lines-spec =
+pub put_lines_spec : {M : Type 1} → statement M
+put_lines_spec =
     tie.close
     (tie.spec
     invariant-loop
@@ -66,10 +66,10 @@ put-lines-spec =
     (λ c. search rules)
     (λ c. search rules)
     (λ c. search rules)
-    sub-put-line-2
-    part-put-line-start-2
+    sub-put_line-2
+    part-put_line-start-2
     (λ c. search rules)
-    put-line-requires
+    put_line-requires
     add-filled
     (λ c. search rules)
     (λ c. search rules)

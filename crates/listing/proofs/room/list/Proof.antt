@@ -5,20 +5,20 @@ use borrow.Author.Rules.{rules}
 use Rattle.listing.proofs.room.list.Statement.{statement}
 use Rattle.listing.proofs.room.list.Tie as tie
 
-returns : tie.Need-returns
+returns : tie.Need-returns-then-input-gt-INPUT_LIMIT
 unfolding put_answer put_buffer
-returns c = let e = lent_none c.before.before.before.args.input.now c.if1.true in (rw e, rw e)
+returns c = let e = lent_none c.args.input.now c.if-input-gt-INPUT_LIMIT.true in (rw e, rw e)
 
-returns-2 : tie.Need-returns-2
+returns-2 : tie.Need-returns-in-Length
 returns-2 c =
-    let e = lent_gives c.before.before.before.before.before.before.before.before.before.before.args.input.now c.before.before.before.before.before.before.before.if1.false in (rw e (rw c.before.answer.given.1 at c.before.before.before.before.before.listing.ensures.0), rw e c.before.before.before.before.before.listing.ensures.1.0)
+    let e = lent_gives c.args.input.now c.if-input-gt-INPUT_LIMIT.false in (rw e (rw c.in-Length.is at c.listing-answer.ensures.0), rw e c.listing-answer.ensures.1.0)
 
-returns-3 : tie.Need-returns-3
+returns-3 : tie.Need-returns-in-Short
 returns-3 c =
-    let e = lent_gives c.before.before.before.before.before.before.before.before.before.args.input.now c.before.before.before.before.before.before.if1.false in (rw e (rw c.enum_told.given.1 at c.before.before.before.before.listing.ensures.0), rw e c.before.before.before.before.listing.ensures.1.0)
+    let e = lent_gives c.args.input.now c.if-input-gt-INPUT_LIMIT.false in (rw e (rw c.in-Short.is at c.listing-answer.ensures.0), rw e c.listing-answer.ensures.1.0)
 
-pub list-spec : {M : Type 1} → statement M
-list-spec =
+pub list_spec : {M : Type 1} → statement M
+list_spec =
     tie.close
     (tie.spec
     returns

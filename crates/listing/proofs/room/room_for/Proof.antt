@@ -5,13 +5,13 @@ use borrow.Author.Rules.{rules}
 use Rattle.listing.proofs.room.room_for.Statement.{statement}
 use Rattle.listing.proofs.room.room_for.Tie as tie
 
-returns : tie.Need-returns
+returns : tie.Need-returns-then-n-gt-INPUT_LIMIT
 unfolding listing_room
-returns c = rw (lt-leb _ _ c.if1.true)
+returns c = rw (lt-leb _ _ c.if-n-gt-INPUT_LIMIT.true)
 
-returns-2 : tie.Need-returns-2
+returns-2 : tie.Need-returns
 unfolding listing_room
-returns-2 c = rw (le-leb _ _ c.if1.false)
+returns-2 c = rw (le-leb _ _ c.if-n-gt-INPUT_LIMIT.false)
 
-pub room-for-spec : {M : Type 1} → statement M
-room-for-spec = tie.close (tie.spec returns (λ c. search rules) returns-2)
+pub room_for_spec : {M : Type 1} → statement M
+room_for_spec = tie.close (tie.spec returns (λ c. search rules) returns-2)

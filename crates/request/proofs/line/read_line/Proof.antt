@@ -6,35 +6,35 @@ use borrow.Author.Rules.{rules}
 use Rattle.request.proofs.line.read_line.Statement.{statement}
 use Rattle.request.proofs.line.read_line.Tie as tie
 
-returns : tie.Need-returns
-returns c = (sym (too_short c.before.before.args.s.now c.if1.true), (refl, zero-le))
+returns : tie.Need-returns-then-s-lt4
+returns c = (sym (too_short c.args.s.now c.if-s-lt4.true), (refl, zero-le))
 
-returns-2 : tie.Need-returns-2
+returns-2 : tie.Need-returns-then-s-ne32
 returns-2 c =
-    (sym (no-space c.before.before.before.before.args.s.now c.before.before.if1.false c.if2.true), (refl, zero-le))
+    (sym (no-space c.args.s.now c.if-s-lt4.false c.if-s-ne32.true), (refl, zero-le))
 
-returns-3 : tie.Need-returns-3
+returns-3 : tie.Need-returns-then-s-ne32-2
 returns-3 c =
-    (sym (one-space c.before.before.before.before.before.before.args.s.now c.before.before.before.before.if1.false c.before.before.if2.false c.if3.true), (refl, zero-le))
+    (sym (one-space c.args.s.now c.if-s-lt4.false c.if-s-ne32.false c.if-s-ne32-2.true), (refl, zero-le))
 
-returns-4 : tie.Need-returns-4
+returns-4 : tie.Need-returns-in_default
 returns-4 c =
-    (rw (two-spaces c.before.before.before.before.before.before.before.before.before.before.args.s.now c.before.before.before.before.before.before.before.before.if1.false c.before.before.before.before.before.before.if2.false c.before.before.before.before.if3.false, ← c.before.before.kind-of-letter.ensures, c.enum_told.given.1), (refl, zero-le))
+    (rw (two-spaces c.args.s.now c.if-s-lt4.false c.if-s-ne32.false c.if-s-ne32-2.false, ← c.kind_of_letter.ensures, c.in_default.is), (refl, zero-le))
 
-returns-5 : tie.Need-returns-5
+returns-5 : tie.Need-returns-in_default-way_of_letter
 returns-5 c =
-    (rw (two-spaces c.before.before.before.before.before.before.before.before.before.before.before.before.before.before.before.args.s.now c.before.before.before.before.before.before.before.before.before.before.before.before.before.if1.false c.before.before.before.before.before.before.before.before.before.before.before.if2.false c.before.before.before.before.before.before.before.before.before.if3.false, ← c.before.before.before.before.before.before.before.kind-of-letter.ensures, c.before.before.before.before.before.kind.given.1, ← c.before.before.way-of-letter.ensures, c.enum-told2.given.1), (refl, zero-le))
+    (rw (two-spaces c.args.s.now c.if-s-lt4.false c.if-s-ne32.false c.if-s-ne32-2.false, ← c.kind_of_letter.ensures, c.in-Kind.is, ← c.way_of_letter.ensures, c.in_default-way_of_letter.is), (refl, zero-le))
 
-returns-6 : tie.Need-returns-6
+returns-6 : tie.Need-returns-then-has_way
 returns-6 c =
-    (rw (two-spaces c.before.before.before.before.before.before.before.before.before.before.before.before.before.before.before.before.before.before.args.s.now c.before.before.before.before.before.before.before.before.before.before.before.before.before.before.before.before.if1.false c.before.before.before.before.before.before.before.before.before.before.before.before.before.before.if2.false c.before.before.before.before.before.before.before.before.before.before.before.before.if3.false, ← c.before.before.before.before.before.before.before.before.before.before.kind-of-letter.ensures, c.before.before.before.before.before.before.before.before.kind.given.1, ← c.before.before.before.before.before.way-of-letter.ensures, c.before.before.before.way.given.1, ← c.before.has-way.ensures, c.if4.true), (sym c.before.has-way.ensures ∙ c.if4.true, c.before.before.before.before.before.before.before.before.before.before.before.before.before.before.before.before.if1.false))
+    (rw (two-spaces c.args.s.now c.if-s-lt4.false c.if-s-ne32.false c.if-s-ne32-2.false, ← c.kind_of_letter.ensures, c.in-Kind.is, ← c.way_of_letter.ensures, c.in-Way.is, ← c.has_way.ensures, c.if-has_way.true), (sym c.has_way.ensures ∙ c.if-has_way.true, c.if-s-lt4.false))
 
-returns-7 : tie.Need-returns-7
+returns-7 : tie.Need-returns
 returns-7 c =
-    (rw (two-spaces c.before.before.before.before.before.before.before.before.before.before.before.before.before.before.before.before.before.before.args.s.now c.before.before.before.before.before.before.before.before.before.before.before.before.before.before.before.before.if1.false c.before.before.before.before.before.before.before.before.before.before.before.before.before.before.if2.false c.before.before.before.before.before.before.before.before.before.before.before.before.if3.false, ← c.before.before.before.before.before.before.before.before.before.before.kind-of-letter.ensures, c.before.before.before.before.before.before.before.before.kind.given.1, ← c.before.before.before.before.before.way-of-letter.ensures, c.before.before.before.way.given.1, ← c.before.has-way.ensures, c.if4.false), (refl, zero-le))
+    (rw (two-spaces c.args.s.now c.if-s-lt4.false c.if-s-ne32.false c.if-s-ne32-2.false, ← c.kind_of_letter.ensures, c.in-Kind.is, ← c.way_of_letter.ensures, c.in-Way.is, ← c.has_way.ensures, c.if-has_way.false), (refl, zero-le))
 
-pub read-line-spec : {M : Type 1} → statement M
-read-line-spec =
+pub read_line_spec : {M : Type 1} → statement M
+read_line_spec =
     tie.close
     (tie.spec
     returns

@@ -6,22 +6,22 @@ use borrow.Author.Rules.{rules}
 use Rattle.request.proofs.numeral.few_digits.Statement.{statement}
 use Rattle.request.proofs.numeral.few_digits.Tie as tie
 
-returns : tie.Need-returns
-returns c = sym (few-none _ c.if1.true)
+returns : tie.Need-returns-then-t-lt1
+returns c = sym (few-none _ c.if-t-lt1.true)
 
-returns-2 : tie.Need-returns-2
-returns-2 c = rw (few-some _ c.before.before.if1.false, eq-eqb _ 43 c.if2.true)
+returns-2 : tie.Need-returns-then-b-eq43
+returns-2 c = rw (few-some _ c.if-t-lt1.false, eq-eqb _ 43 c.if-b-eq43.true)
 
-returns-3 : tie.Need-returns-3
+returns-3 : tie.Need-returns-then-b-eq45
 returns-3 c =
-    rw (few-some _ c.before.before.before.before.if1.false, ne_eqb _ 43 c.before.before.if2.false, eq-eqb _ 45 c.before.if3.true) c.one-to-ten.ensures
+    rw (few-some _ c.if-t-lt1.false, ne_eqb _ 43 c.if-b-eq43.false, eq-eqb _ 45 c.if-b-eq45.true) c.one_to_ten.ensures
 
-returns-4 : tie.Need-returns-4
+returns-4 : tie.Need-returns
 returns-4 c =
-    rw (few-some _ c.before.before.before.before.if1.false, ne_eqb _ 43 c.before.before.if2.false, ne_eqb _ 45 c.before.if3.false) c.one-to-ten2.ensures
+    rw (few-some _ c.if-t-lt1.false, ne_eqb _ 43 c.if-b-eq43.false, ne_eqb _ 45 c.if-b-eq45.false) c.one_to_ten-2.ensures
 
-pub few-digits-spec : {M : Type 1} → statement M
-few-digits-spec =
+pub few_digits_spec : {M : Type 1} → statement M
+few_digits_spec =
     tie.close
     (tie.spec
     returns

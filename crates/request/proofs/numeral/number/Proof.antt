@@ -6,16 +6,16 @@ use borrow.Author.Rules.{rules}
 use Rattle.request.proofs.numeral.number.Statement.{statement}
 use Rattle.request.proofs.numeral.number.Tie as tie
 
-returns : tie.Need-returns
+returns : tie.Need-returns-then-s-from
 unfolding line_number
-returns c = rw (past _ _ c.if1.true)
+returns c = rw (past _ _ c.if-s-from.true)
 
-returns-2 : tie.Need-returns-2
+returns-2 : tie.Need-returns
 returns-2 c =
-    rw (tail-lent c.before.before.before.before.args.s.now c.before.before.before.before.args.from) at c.text-number.ensures
+    rw (tail-lent c.args.s.now c.args.from) at c.text_number.ensures
 
-pub number-spec : {M : Type 1} → statement M
-number-spec =
+pub number_spec : {M : Type 1} → statement M
+number_spec =
     tie.close
     (tie.spec
     returns

@@ -3,11 +3,11 @@ use borrow.Author.Tests.{le-leb, lt-leb}
 use Rattle.request.proofs.numeral.one_to_ten.Statement.{statement}
 use Rattle.request.proofs.numeral.one_to_ten.Tie as tie
 
-returns : tie.Need-returns
-returns c = rw (le-leb _ _ c.if1.true)
+returns : tie.Need-returns-then-n-ge1
+returns c = rw (le-leb _ _ c.if-n-ge1.true)
 
-returns-2 : tie.Need-returns-2
-returns-2 c = rw (lt-leb _ _ c.if1.false)
+returns-2 : tie.Need-returns
+returns-2 c = rw (lt-leb _ _ c.if-n-ge1.false)
 
-pub one-to-ten-spec : {M : Type 1} → statement M
-one-to-ten-spec = tie.close (tie.spec returns returns-2)
+pub one_to_ten_spec : {M : Type 1} → statement M
+one_to_ten_spec = tie.close (tie.spec returns returns-2)

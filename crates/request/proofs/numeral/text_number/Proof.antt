@@ -7,24 +7,24 @@ use borrow.Author.Rules.{rules}
 use Rattle.request.proofs.numeral.text_number.Statement.{statement}
 use Rattle.request.proofs.numeral.text_number.Tie as tie
 
-returns : tie.Need-returns
+returns : tie.Need-returns-in_default
 returns c =
-    rw (line-number c.before.before.before.before.before.before.args.t.now, ← c.before.before.before.before.few-digits.ensures, c.before.before.before.if1.true, ← c.before.before.to-i64-t.ensures.0, c.enum_told.given.1)
+    rw (line-number c.args.t.now, ← c.few_digits.ensures, c.if-few_digits.true, ← c.to_i64_t.ensures.0, c.in_default.is)
 
-returns-2 : tie.Need-returns-2
+returns-2 : tie.Need-returns-then-next-t
 returns-2 c =
-    rw (line-number c.before.before.before.before.before.before.before.before.args.t.now, ← c.before.before.before.before.before.before.few-digits.ensures, c.before.before.before.before.before.if1.true, ← c.before.before.before.before.to-i64-t.ensures.0, c.before.before.value.given.1, here _ _ c.if2.true)
+    rw (line-number c.args.t.now, ← c.few_digits.ensures, c.if-few_digits.true, ← c.to_i64_t.ensures.0, c.in-Number.is, here _ _ c.if-next-t.true)
 
-returns-3 : tie.Need-returns-3
+returns-3 : tie.Need-returns-then-few_digits
 returns-3 c =
-    rw (line-number c.before.before.before.before.before.before.before.before.before.args.t.now, ← c.before.before.before.before.before.before.before.few-digits.ensures, c.before.before.before.before.before.before.if1.true, ← c.before.before.before.before.before.to-i64-t.ensures.0, c.before.before.before.value.given.1, past _ _ c.before.if2.false) (rw (held w64 {z = c.before.before.before.value.given.0.0} c.before.before.known-told.given.0.1) at c.whole32.ensures)
+    rw (line-number c.args.t.now, ← c.few_digits.ensures, c.if-few_digits.true, ← c.to_i64_t.ensures.0, c.in-Number.is, past _ _ c.if-next-t.false) (rw (held w64 {z = c.in-Number.value} c.in-Number.known_told-1-own.given.0.1) at c.whole32.ensures)
 
-returns-4 : tie.Need-returns-4
+returns-4 : tie.Need-returns
 returns-4 c =
-    rw (line-number c.before.before.before.args.t.now, ← c.before.few-digits.ensures, c.if1.false)
+    rw (line-number c.args.t.now, ← c.few_digits.ensures, c.if-few_digits.false)
 
-pub text-number-spec : {M : Type 1} → statement M
-text-number-spec =
+pub text_number_spec : {M : Type 1} → statement M
+text_number_spec =
     tie.close
     (tie.spec
     (λ c κs. search rules)

@@ -11,24 +11,24 @@ use Rattle.request.specs.Numerals.{whole}
 use Rattle.request.proofs.numeral.whole32.Statement.{statement}
 use Rattle.request.proofs.numeral.whole32.Tie as tie
 
-asked : (c : tie.After-fits32) → c.fits32.result ≡ fits32 c.before.args.value
-asked c = rw (to_z-of_z c.before.ranges.value) at c.fits32.ensures
+asked : (c : tie.After-fits32) → c.fits32.result ≡ fits32 c.args.value
+asked c = rw (to_z-of_z c.ranges.value) at c.fits32.ensures
 
 narrow32-requires : tie.Need-narrow32-requires
 narrow32-requires c κs =
-    let s = c.before.before in
-    rw (to_z-of_z s.ranges.value) (fits_in s.args.value 2147483648 2147483647 (sym (asked c.before) ∙ c.if1.true))
+    let s = c in
+    rw (to_z-of_z s.ranges.value) (fits_in s.args.value 2147483648 2147483647 (sym (asked c.before) ∙ c.if-fits32.true))
 
-returns : tie.Need-returns
+returns : tie.Need-returns-then-fits32
 unfolding whole
 returns c =
-    let t = c.before in
-    let s = t.before.before in
-    rw (← (asked t.before), t.if1.true) (ap Gives (held w32 c.narrow32.type-inv ∙ (c.narrow32.ensures ∙ to_z-of_z s.ranges.value)))
+    let t = c in
+    let s = c in
+    rw (← (asked c.before.before), t.if-fits32.true) (ap Gives (held w32 c.narrow32.type_inv ∙ (c.narrow32.ensures ∙ to_z-of_z s.ranges.value)))
 
-returns-2 : tie.Need-returns-2
+returns-2 : tie.Need-returns
 unfolding whole
-returns-2 c = rw (← (asked c.before), c.if1.false)
+returns-2 c = rw (← (asked c.before), c.if-fits32.false)
 
-pub whole32-spec : {M : Type 1} → statement M
-whole32-spec = tie.close (tie.spec (λ c κs. search rules) narrow32-requires returns returns-2)
+pub whole32_spec : {M : Type 1} → statement M
+whole32_spec = tie.close (tie.spec (λ c κs. search rules) narrow32-requires returns returns-2)

@@ -18,8 +18,6 @@ use Rattle.requests.proofs.OnSecond.FieldEntryLaws.{version2-sensible}
 use Rattle.book_reader.specs.Places.{next_place}
 use Rattle.book_reader.specs.declared.BookReader.{BookReader}
 use Rattle.book_reader.specs.declared.any.AnyBookReader.{AnyBookReader}
-use Rattle.book_reader.proofs.Walks.Reader.{Reader, book, place}
-use Rattle.book_reader.proofs.Readers.{any_lifetime, book-reader, any-book-reader}
 
 -- ---- the place after a place, in every format of at most as many records as version 1
 
@@ -71,14 +69,10 @@ moved-on-both s = moved (both s) (short-by (version_of s)) s
 
 -- ---- a reader's book and place determine it
 
-determined : (R : Reader) (s : Bor (List ℕ)) (at : ℕ) (r q : R.D) →
-    (book R r ≡ s) × (place R r ≡ at) → (book R q ≡ s) × (place R q ≡ at) → r ≡ q
-determined R s at r q a b = R.one any_lifetime r q (λ i. ((a.0 ∙ sym b.0) i, ((a.1 ∙ sym b.1) i, tt)))
-
 pub reader-determined : (s : Bor (List ℕ)) (at : ℕ) (r q : BookReader) →
     (r.book ≡ s) × (r.place ≡ at) → (q.book ≡ s) × (q.place ≡ at) → r ≡ q
-reader-determined = determined book-reader
+reader-determined s at r q a b = λ i. record { book = (a.0 ∙ sym b.0) i; place = (a.1 ∙ sym b.1) i }
 
 pub any-reader-determined : (s : Bor (List ℕ)) (at : ℕ) (r q : AnyBookReader) →
     (r.book ≡ s) × (r.place ≡ at) → (q.book ≡ s) × (q.place ≡ at) → r ≡ q
-any-reader-determined = determined any-book-reader
+any-reader-determined s at r q a b = λ i. record { book = (a.0 ∙ sym b.0) i; place = (a.1 ∙ sym b.1) i }

@@ -1,3 +1,1 @@
-pub mod Walks
-pub mod Readers
 pub mod Laws

@@ -14,7 +14,7 @@ use Rattle.gap_report.proofs.print_refused.Tie as tie
 returns : tie.Need-returns
 unfolding printed
 returns c =
-    let l₀ = c.args.out.now in named l₀ {t = printed (Refused c.args.n)} refl (omega arith) (and_byte l₀ (bytes "refused" ++ spaced (decimal c.args.n)) c.Put-refused.ensures 10 (omega (arith, c.requires)))
+    let l₀ = c.args.out.now in named l₀ {t = printed (Refused c.args.n)} refl (omega arith) (and_byte l₀ (bytes "refused" ++ spaced (decimal c.args.n)) c.put_refused-end.ensures 10 (omega (arith, c.requires)))
 
 pub print_refused_spec : {M : Type 1} → statement M
 print_refused_spec =

@@ -18,7 +18,7 @@ same_length c = simp length-set (search rules)
 returns : tie.Need-returns
 unfolding printed
 returns c =
-    let l₀ = c.args.out.now in let front = bytes "refused" ++ spaced (decimal c.args.n) in let place = spaced (decimal c.args.place) in let w = and-text l₀ front c.Put-refused.ensures place (omega (arith, c.requires)) c.put_number.ensures in named l₀ {t = printed (RefusedAt c.args.n c.args.place)} refl (omega arith) (and_byte l₀ (front ++ place) w 10 (omega (arith, c.requires)))
+    let l₀ = c.args.out.now in let front = bytes "refused" ++ spaced (decimal c.args.n) in let place = spaced (decimal c.args.place) in let w = and-text l₀ front c.put_refused-at.ensures place (omega (arith, c.requires)) c.put_number.ensures in named l₀ {t = printed (RefusedAt c.args.n c.args.place)} refl (omega arith) (and_byte l₀ (front ++ place) w 10 (omega (arith, c.requires)))
 
 pub print_refused_at_spec : {M : Type 1} → statement M
 print_refused_at_spec =

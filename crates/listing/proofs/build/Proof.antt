@@ -30,7 +30,7 @@ returns c =
 returns-2 : tie.Need-returns-in-Refused
 returns-2 c =
     let e = refusal-output c.args.s.now (kind_of c.in-Ask.kind) (way_of c.in-Ask.way) (sym c.read_line-asked.ensures.0 ∙ ap (request_as c.args.s.now) c.in-Ask.is) _ (ap asked_as (sym c.in-Refused.is) ∙ c.date_by-answer.ensures.0) in
-    let q = rw c.letter.ensures at c.Put-refused.ensures in ((q.0.0 ∙ ap length (sym e), q.0.1), q.1 ∙ placed-as c.args.out.now e)
+    let q = rw c.letter.ensures at c.put_refused.ensures in ((q.0.0 ∙ ap length (sym e), q.0.1), q.1 ∙ placed-as c.args.out.now e)
 
 returns-3 : tie.Need-returns-in-Unreadable
 returns-3 c =

@@ -7,7 +7,7 @@ use native.Mathlib.Omega.{arith}
 use lib.Dec.{lit<}
 use lib.ListN.{drop}
 use Rattle.rules.specs.Words.{byte}
-use Rattle.rules.specs.Refusals.{Answer, Gives, Refused, given, unreadable_line}
+use Rattle.rules.specs.Refusals.{Answer, Gives, Refused, RefusedAt, given, unreadable_line}
 use Rattle.rules.specs.Kinds.{Kind, Fields, Stored, of_kind, unpacked, handed, mark_allowed, stored_with, store_with}
 use Rattle.rules.specs.Listing.{Way, by_text, by_number, by_guess, letter, read_line, date_by, refused_text, date_text, request_text, line_end, line_output}
 use Rattle.rules.proofs.OnKinds.PackLaws.{unpack-pack, marked-back}

@@ -10,59 +10,59 @@ use Rattle.script.proofs.Prepared.{entries_none, entries-turn, entries_fit_lem, 
 use Rattle.script.proofs.preparing.entries.Statement.{statement}
 use Rattle.script.proofs.preparing.entries.Tie as tie
 
-abbrev invariant-loop : tie.invariant-loop
+abbrev invariant-loop : tie.invariant-loop-i
 invariant-loop buffer₀ place first count code i₀ buffer i = (i ≤ count) × (length buffer ≡ length buffer₀) × (buffer ≡ sets buffer₀ place (entry_run first i code))
 
-abbrev decreases-loop : tie.decreases-loop
+abbrev decreases-loop : tie.decreases-loop-i
 decreases-loop buffer₀ place first count code i₀ buffer i = count - i
 
-returns : tie.Need-returns invariant-loop decreases-loop
-returns c = let a = c.before.args in (entries_over a.place a.first a.count _ (omega arith), refl)
+returns : tie.Need-returns-then-count-gt65536 invariant-loop decreases-loop
+returns c = let a = c.args in (entries_over a.place a.first a.count _ (omega arith), refl)
 
-returns-2 : tie.Need-returns-2 invariant-loop decreases-loop
+returns-2 : tie.Need-returns-then-count-first invariant-loop decreases-loop
 returns-2 c =
-    let a = c.before.before.args in (entries_over a.place a.first a.count _ (omega arith), refl)
+    let a = c.args in (entries_over a.place a.first a.count _ (omega arith), refl)
 
-returns-3 : tie.Need-returns-3 invariant-loop decreases-loop
+returns-3 : tie.Need-returns-then-buffer-count invariant-loop decreases-loop
 returns-3 c =
-    let a = c.before.before.before.args in (entries-short a.place a.first a.count _ (omega arith) (omega arith), refl)
+    let a = c.args in (entries-short a.place a.first a.count _ (omega arith) (omega arith), refl)
 
-returns-4 : tie.Need-returns-4 invariant-loop decreases-loop
+returns-4 : tie.Need-returns-then-buffer-count-2 invariant-loop decreases-loop
 returns-4 c =
-    let a = c.before.before.before.before.args in (entries-short a.place a.first a.count _ (omega arith) (omega arith), refl)
+    let a = c.args in (entries-short a.place a.first a.count _ (omega arith) (omega arith), refl)
 
-loop-holds : tie.Need-loop-init invariant-loop decreases-loop
+loop-holds : tie.Need-loop-i-init invariant-loop decreases-loop
 loop-holds c =
-    let a = c.before.before.before.before.args in (omega arith, refl, entries_none a.buffer.now a.place a.first a.code)
+    let a = c.args in (omega arith, refl, entries_none a.buffer.now a.place a.first a.code)
 
-cast-buffer : tie.Need-overflow-cast-buffer invariant-loop decreases-loop
+cast-buffer : tie.Need-overflow_cast-buffer invariant-loop decreases-loop
 cast-buffer c = omega arith
 
-cast-buffer-2 : tie.Need-overflow-cast-buffer-2 invariant-loop decreases-loop
+cast-buffer-2 : tie.Need-overflow_cast-buffer-in-loop-i invariant-loop decreases-loop
 cast-buffer-2 c = omega arith
 
-slice-write-buffer : tie.Need-slice-write-buffer invariant-loop decreases-loop
-slice-write-buffer c = omega arith
+slice_write-buffer : tie.Need-bounds-buffer-at invariant-loop decreases-loop
+slice_write-buffer c = omega arith
 
-slice-write-buffer-2 : tie.Need-slice-write-buffer-2 invariant-loop decreases-loop
-slice-write-buffer-2 c = simp length-set (omega arith)
+slice_write-buffer-2 : tie.Need-bounds-buffer-at-in-loop-i invariant-loop decreases-loop
+slice_write-buffer-2 c = simp length-set (omega arith)
 
-slice-write-buffer-3 : tie.Need-slice-write-buffer-3 invariant-loop decreases-loop
-slice-write-buffer-3 c = simp length-set (omega arith)
+slice_write-buffer-3 : tie.Need-bounds-buffer-at-in-loop-i-2 invariant-loop decreases-loop
+slice_write-buffer-3 c = simp length-set (omega arith)
 
-loop-again : tie.Need-loop-preserved invariant-loop decreases-loop
+loop-again : tie.Need-loop-i-preserved invariant-loop decreases-loop
 loop-again c =
-    let a = c.before.before.before.before.before.before.args in let l = c.before.loop in (omega arith, simp length-set l.invariant.1, entries-turn a.buffer.now l.buffer a.place a.first a.code l.i l.invariant.2)
+    let a = c.args in let l = c.loop-i in (omega arith, simp length-set l.invariant.1, entries-turn a.buffer.now l.buffer a.place a.first a.code l.i l.invariant.2)
 
-same_length : tie.Need-same-length invariant-loop decreases-loop
-same_length c = c.before.loop.invariant.1
+same_length : tie.Need-shape_of-buffer invariant-loop decreases-loop
+same_length c = c.loop-i.invariant.1
 
-returns-5 : tie.Need-returns-5 invariant-loop decreases-loop
+returns-5 : tie.Need-returns invariant-loop decreases-loop
 returns-5 c =
-    let a = c.before.before.before.before.before.before.args in let l = c.before.loop in let e : l.i ≡ a.count = omega arith in (entries_fit_lem a.place a.first a.count _ (omega arith) (omega arith), rw e at l.invariant.2)
+    let a = c.args in let l = c.loop-i in let e : l.i ≡ a.count = omega arith in (entries_fit_lem a.place a.first a.count _ (omega arith) (omega arith), rw e at l.invariant.2)
 
-pub entries-spec : {M : Type 1} → statement M
-entries-spec =
+pub entries_spec : {M : Type 1} → statement M
+entries_spec =
     tie.close
     (tie.spec
     invariant-loop
@@ -79,12 +79,12 @@ entries-spec =
     (λ c. search rules)
     (λ c. search rules)
     cast-buffer
-    slice-write-buffer
+    slice_write-buffer
     cast-buffer-2
     (λ c. search rules)
-    slice-write-buffer-2
+    slice_write-buffer-2
     (λ c. search rules)
-    slice-write-buffer-3
+    slice_write-buffer-3
     (λ c. search rules)
     (λ c. search rules)
     loop-again

@@ -6,14 +6,14 @@ use Rattle.script.proofs.Prepared.{put_whole}
 use Rattle.script.proofs.preparing.put.Statement.{statement}
 use Rattle.script.proofs.preparing.put.Tie as tie
 
-returns : tie.Need-returns
+returns : tie.Need-returns-then-buffer-target
 returns c =
-    let a = c.before.before.before.before.before.before.before.args in
-    let e = c.before.before.before.before.if1.true in
-    (sym (eq-eqb _ _ e), c.before.before.copy.ensures ∙ put_whole a.buffer.now a.target.now e)
+    let a = c.args in
+    let e = c.if-buffer-target.true in
+    (sym (eq-eqb _ _ e), c.copy.ensures ∙ put_whole a.buffer.now a.target.now e)
 
-returns-2 : tie.Need-returns-2
-returns-2 c = (sym (ne_eqb _ _ c.if1.false), refl)
+returns-2 : tie.Need-returns
+returns-2 c = (sym (ne_eqb _ _ c.if-buffer-target.false), refl)
 
 pub put_spec : {M : Type 1} → statement M
 put_spec = tie.close (tie.spec (λ c κs. search rules) (λ c. search rules) returns returns-2)

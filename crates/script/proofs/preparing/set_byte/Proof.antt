@@ -5,11 +5,11 @@ use borrow.Author.Tests.{lt-ltb, le-ltb}
 use Rattle.script.proofs.preparing.set_byte.Statement.{statement}
 use Rattle.script.proofs.preparing.set_byte.Tie as tie
 
-returns : tie.Need-returns
-returns c = (sym (lt-ltb _ _ c.if1.true), refl)
+returns : tie.Need-returns-then-place-buffer
+returns c = (sym (lt-ltb _ _ c.if-place-buffer.true), refl)
 
-returns-2 : tie.Need-returns-2
-returns-2 c = (sym (le-ltb _ _ c.if1.false), refl)
+returns-2 : tie.Need-returns
+returns-2 c = (sym (le-ltb _ _ c.if-place-buffer.false), refl)
 
-pub set-byte-spec : {M : Type 1} → statement M
-set-byte-spec = tie.close (tie.spec (λ c. search rules) (λ c. search rules) returns returns-2)
+pub set_byte_spec : {M : Type 1} → statement M
+set_byte_spec = tie.close (tie.spec (λ c. search rules) (λ c. search rules) returns returns-2)

@@ -3,26 +3,26 @@ use borrow.Author.Rules.{rules}
 use Rattle.script.proofs.table_answers.changed.Statement.{statement}
 use Rattle.script.proofs.table_answers.changed.Tie as tie
 
-returns : tie.Need-returns
-returns c = rw c.before.answer.given.1
+returns : tie.Need-returns-in-Entries
+returns c = rw c.in-Entries.is
 
-returns-2 : tie.Need-returns-2
-returns-2 c = rw c.enum_told.given.1
+returns-2 : tie.Need-returns-in-BadLength
+returns-2 c = rw c.in-BadLength.is
 
-returns-3 : tie.Need-returns-3
-returns-3 c = rw c.enum-told2.given.1
+returns-3 : tie.Need-returns-in-BadVersion
+returns-3 c = rw c.in-BadVersion.is
 
-returns-4 : tie.Need-returns-4
-returns-4 c = rw c.enum-told3.given.1
+returns-4 : tie.Need-returns-in-BadEntry
+returns-4 c = rw c.in-BadEntry.is
 
-returns-5 : tie.Need-returns-5
-returns-5 c = rw c.enum-told4.given.1
+returns-5 : tie.Need-returns-in-Full
+returns-5 c = rw c.in-Full.is
 
-returns-6 : tie.Need-returns-6
-returns-6 c = rw c.enum-told5.given.1
+returns-6 : tie.Need-returns-in-NotThere
+returns-6 c = rw c.in-NotThere.is
 
-pub changed-spec : {M : Type 1} → statement M
-changed-spec =
+pub changed_spec : {M : Type 1} → statement M
+changed_spec =
     tie.close
     (tie.spec
     (λ c. search rules)

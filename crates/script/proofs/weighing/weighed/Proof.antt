@@ -9,28 +9,28 @@ use Rattle.script.proofs.Weighed.{none, turn, end}
 use Rattle.script.proofs.weighing.weighed.Statement.{statement}
 use Rattle.script.proofs.weighing.weighed.Tie as tie
 
-abbrev invariant-loop : tie.invariant-loop
+abbrev invariant-loop : tie.invariant-loop-i
 invariant-loop buffer sum₀ i₀ sum i = (i ≤ length buffer) × (sum ≡ weights_from 1 (take i buffer) % 4294967296)
 
-abbrev decreases-loop : tie.decreases-loop
+abbrev decreases-loop : tie.decreases-loop-i
 decreases-loop buffer sum₀ i₀ sum i = length buffer - i
 
-loop-holds : tie.Need-loop-init invariant-loop decreases-loop
-loop-holds c = (omega arith, none c.before.args.buffer.now)
+loop-holds : tie.Need-loop-i-init invariant-loop decreases-loop
+loop-holds c = (omega arith, none c.args.buffer.now)
 
-add-sum : tie.Need-overflow-add-sum invariant-loop decreases-loop
-add-sum c = omega (arith, c.weight.ensures, c.before.before.before.loop.invariant.1)
+add-sum : tie.Need-overflow_add-sum invariant-loop decreases-loop
+add-sum c = omega (arith, c.weight.ensures, c.loop-i.invariant.1)
 
-loop-again : tie.Need-loop-preserved invariant-loop decreases-loop
+loop-again : tie.Need-loop-i-preserved invariant-loop decreases-loop
 loop-again c =
-    let a = c.before.before.before.before.before.args in let l = c.before.before.before.loop in (omega arith, turn a.buffer.now l.sum l.i c.weight.result (omega arith) l.invariant.1 c.weight.ensures)
+    let a = c.args in let l = c.loop-i in (omega arith, turn a.buffer.now l.sum l.i c.weight.result (omega arith) l.invariant.1 c.weight.ensures)
 
 returns : tie.Need-returns invariant-loop decreases-loop
 returns c =
-    let l = c.before.loop in end c.before.before.before.args.buffer.now l.sum l.i (omega arith) l.invariant.1
+    let l = c.loop-i in end c.args.buffer.now l.sum l.i (omega arith) l.invariant.1
 
-pub weighed-spec : {M : Type 1} → statement M
-weighed-spec =
+pub weighed_spec : {M : Type 1} → statement M
+weighed_spec =
     tie.close
     (tie.spec
     invariant-loop

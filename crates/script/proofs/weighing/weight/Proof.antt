@@ -8,13 +8,13 @@ use Rattle.script.proofs.Weighed.{weight-of}
 use Rattle.script.proofs.weighing.weight.Statement.{statement}
 use Rattle.script.proofs.weighing.weight.Tie as tie
 
-mul-result : tie.Need-overflow-mul-result
+mul-result : tie.Need-overflow_mul-result
 mul-result c =
-    let h : c.before.args.i % 4294967296 + 1 ≤ 4294967296 = omega arith in
+    let h : c.args.i % 4294967296 + 1 ≤ 4294967296 = omega arith in
     omega (arith, mul-le-mul_right c.wide.result h, c.wide.ensures.1)
 
 returns : tie.Need-returns
-returns c = let a = c.before.args in ap (λ (b : ℕ). (a.i % 4294967296 + 1) * b % 4294967296) c.wide.ensures.0 ∙ weight-of a.i a.byte
+returns c = let a = c.args in ap (λ (b : ℕ). (a.i % 4294967296 + 1) * b % 4294967296) c.wide.ensures.0 ∙ weight-of a.i a.byte
 
-pub weight-spec : {M : Type 1} → statement M
-weight-spec = tie.close (tie.spec (λ c. search rules) (λ c κs. search rules) mul-result returns)
+pub weight_spec : {M : Type 1} → statement M
+weight_spec = tie.close (tie.spec (λ c. search rules) (λ c κs. search rules) mul-result returns)

@@ -14,18 +14,18 @@ returns : tie.Need-returns-then-year-ltminus32768
 returns c =
     sym (year-refused (kind_of c.args.kind) _ (too-low c.args.year 32768 32767 (rw (to_z-of_z c.ranges.year) at c.if-year-ltminus32768.true)))
 
-returns-2 : tie.Need-returns-then-year-gt32767
-returns-2 c =
-    sym (year-refused (kind_of c.args.kind) _ (too-high c.args.year 32768 32767 (rw (to_z-of_z c.ranges.year) at c.if-year-gt32767.true)))
-
-narrow16-requires : tie.Need-narrow16-requires
-narrow16-requires c κs =
-    let e = to_z-of_z c.ranges.year in rw e (in-range c.args.year 32768 32767 (rw e at c.if-year-ltminus32768.false) (rw e at c.if-year-gt32767.false))
-
 returns-3 : tie.Need-returns
 returns-3 c =
     let year : _ ≡ c.args.year = held w16 {z = c.narrow16.result} c.narrow16.type_inv ∙ (c.narrow16.ensures ∙ to_z-of_z c.ranges.year) in rw year at (c.settle.ensures not_text)
 
 pub settle_year_spec : {M : Type 1} → statement M
 settle_year_spec =
-    tie.close (tie.spec returns returns-2 narrow16-requires (λ c κs. search rules) returns-3)
+    tie.close
+    (tie.spec
+    returns
+    (λ c.
+    sym (year-refused (kind_of c.args.kind) _ (too-high c.args.year 32768 32767 (rw (to_z-of_z c.ranges.year) at c.if-year-gt32767.true))))
+    (λ c κs.
+    let e = to_z-of_z c.ranges.year in rw e (in-range c.args.year 32768 32767 (rw e at c.if-year-ltminus32768.false) (rw e at c.if-year-gt32767.false)))
+    (λ c κs. search rules)
+    returns-3)

@@ -4,26 +4,26 @@ use borrow.Author.Rules.{rules}
 use Rattle.pennyquill.proofs.books.count_crossed.Statement.{statement}
 use Rattle.pennyquill.proofs.books.count_crossed.Tie as tie
 
-cast-gives : tie.Need-overflow-cast-gives
-cast-gives c = omega (arith, rw c.before.checked.given.1 at c.before.before.before.requires)
+cast-gives : tie.Need-overflow_cast-n
+cast-gives c = omega (arith, rw c.in-Records.is at c.requires)
 
-refused-at-requires : tie.Need-refused-at-requires
-refused-at-requires c κs = rw c.before.checked2.given.1 at c.before.before.before.requires
+refused_at-requires : tie.Need-refused_at-requires
+refused_at-requires c κs = rw c.in-BadRecord.is at c.requires
 
-returns : tie.Need-returns
-returns c = rw c.before.before.checked.given.1 c.gives.ensures
+returns : tie.Need-returns-in-Records
+returns c = rw c.in-Records.is c.gives.ensures
 
-returns-2 : tie.Need-returns-2
-returns-2 c = rw c.before.enum_told.given.1 c.refused.ensures
+returns-2 : tie.Need-returns-in-BadLength
+returns-2 c = rw c.in-BadLength.is c.refused.ensures
 
-returns-3 : tie.Need-returns-3
-returns-3 c = rw c.before.enum-told2.given.1 c.refused2.ensures
+returns-3 : tie.Need-returns-in-BadVersion
+returns-3 c = rw c.in-BadVersion.is c.refused-in-BadVersion.ensures
 
-returns-4 : tie.Need-returns-4
-returns-4 c = rw c.before.before.checked2.given.1 c.refused-at.ensures
+returns-4 : tie.Need-returns-in-BadRecord
+returns-4 c = rw c.in-BadRecord.is c.refused_at.ensures
 
-pub count-crossed-spec : {M : Type 1} → statement M
-count-crossed-spec =
+pub count_crossed_spec : {M : Type 1} → statement M
+count_crossed_spec =
     tie.close
     (tie.spec
     (λ c. search rules)
@@ -34,7 +34,7 @@ count-crossed-spec =
     (λ c. search rules)
     (λ c κs. search rules)
     (λ c. search rules)
-    refused-at-requires
+    refused_at-requires
     returns
     returns-2
     returns-3

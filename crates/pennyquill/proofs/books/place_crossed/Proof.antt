@@ -4,35 +4,35 @@ use borrow.Author.Rules.{rules}
 use Rattle.pennyquill.proofs.books.place_crossed.Statement.{statement}
 use Rattle.pennyquill.proofs.books.place_crossed.Tie as tie
 
-cast-gives : tie.Need-overflow-cast-gives
-cast-gives c = omega (arith, rw c.before.appended.given.1 at c.before.before.before.requires)
+cast-gives : tie.Need-overflow_cast-n
+cast-gives c = omega (arith, rw c.in-At.is at c.requires)
 
-refused-at-requires : tie.Need-refused-at-requires
-refused-at-requires c κs = rw c.before.appended2.given.1 at c.before.before.before.requires
+refused_at-requires : tie.Need-refused_at-requires
+refused_at-requires c κs = rw c.in-BadRecord.is at c.requires
 
-returns : tie.Need-returns
-returns c = rw c.before.before.appended.given.1 c.gives.ensures
+returns : tie.Need-returns-in-At
+returns c = rw c.in-At.is c.gives.ensures
 
-returns-2 : tie.Need-returns-2
-returns-2 c = rw c.before.enum_told.given.1 c.not-of-kind.ensures
+returns-2 : tie.Need-returns-in-NotOfKind
+returns-2 c = rw c.in-NotOfKind.is c.not_of_kind.ensures
 
-returns-3 : tie.Need-returns-3
-returns-3 c = rw c.before.enum-told2.given.1 c.refused.ensures
+returns-3 : tie.Need-returns-in-BadLength
+returns-3 c = rw c.in-BadLength.is c.refused.ensures
 
-returns-4 : tie.Need-returns-4
-returns-4 c = rw c.before.enum-told3.given.1 c.refused2.ensures
+returns-4 : tie.Need-returns-in-BadVersion
+returns-4 c = rw c.in-BadVersion.is c.refused-in-BadVersion.ensures
 
-returns-5 : tie.Need-returns-5
-returns-5 c = rw c.before.before.appended2.given.1 c.refused-at.ensures
+returns-5 : tie.Need-returns-in-BadRecord
+returns-5 c = rw c.in-BadRecord.is c.refused_at.ensures
 
-returns-6 : tie.Need-returns-6
-returns-6 c = rw c.before.enum-told4.given.1 c.refused3.ensures
+returns-6 : tie.Need-returns-in-NoRoom
+returns-6 c = rw c.in-NoRoom.is c.refused-in-NoRoom.ensures
 
-returns-7 : tie.Need-returns-7
-returns-7 c = rw c.before.enum-told5.given.1 c.refused4.ensures
+returns-7 : tie.Need-returns-in-GuessedDate
+returns-7 c = rw c.in-GuessedDate.is c.refused-in-GuessedDate.ensures
 
-pub place-crossed-spec : {M : Type 1} → statement M
-place-crossed-spec =
+pub place_crossed_spec : {M : Type 1} → statement M
+place_crossed_spec =
     tie.close
     (tie.spec
     (λ c. search rules)
@@ -45,7 +45,7 @@ place-crossed-spec =
     (λ c. search rules)
     (λ c κs. search rules)
     (λ c. search rules)
-    refused-at-requires
+    refused_at-requires
     (λ c. search rules)
     (λ c κs. search rules)
     (λ c. search rules)

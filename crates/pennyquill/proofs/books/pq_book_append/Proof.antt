@@ -8,20 +8,20 @@ use borrow.Author.Rules.{rules}
 use Rattle.pennyquill.proofs.books.pq_book_append.Statement.{statement}
 use Rattle.pennyquill.proofs.books.pq_book_append.Tie as tie
 
-returns : tie.Need-returns
+returns : tie.Need-returns-in_default
 unfolding append_answer append_buffer entry_for
 returns c =
-    rw (by_code c.before.before.before.kind-of-code.ensures c.before.enum_told.given.1) (c.not-of-kind.ensures, refl)
+    rw (by_code c.kind_of_code.ensures c.in_default.is) (c.not_of_kind.ensures, refl)
 
-place-crossed-requires : tie.Need-place-crossed-requires
-place-crossed-requires c κs = rw c.before.before.append.ensures.0 (append-small version1 one _ _ (one-handed _ _))
+place_crossed-requires : tie.Need-place_crossed-requires
+place_crossed-requires c κs = rw c.append.ensures.0 (append-small version1 one _ _ (one-handed _ _))
 
-returns-2 : tie.Need-returns-2
+returns-2 : tie.Need-returns
 returns-2 c =
-    rw (entry-code _ _ (by_code c.before.before.before.before.before.before.before.before.before.kind-of-code.ensures c.before.before.before.before.before.before.before.kind.given.1), ← c.before.before.before.before.date-in.ensures) (c.place-crossed.ensures ∙ ap crossed c.before.before.before.append.ensures.0, c.before.before.before.append.ensures.1)
+    rw (entry-code _ _ (by_code c.kind_of_code.ensures c.in-Kind.is), ← c.date_in.ensures) (c.place_crossed.ensures ∙ ap crossed c.append.ensures.0, c.append.ensures.1)
 
-pub pq-book-append-spec : {M : Type 1} → statement M
-pq-book-append-spec =
+pub pq_book_append_spec : {M : Type 1} → statement M
+pq_book_append_spec =
     tie.close
     (tie.spec
     (λ c κs. search rules)
@@ -31,6 +31,6 @@ pq-book-append-spec =
     returns
     (λ c κs. search rules)
     (λ c κs. search rules)
-    place-crossed-requires
+    place_crossed-requires
     (λ c. search rules)
     returns-2)

@@ -8,11 +8,11 @@ use borrow.Author.Rules.{rules}
 use Rattle.pennyquill.proofs.books.pq_book_record.Statement.{statement}
 use Rattle.pennyquill.proofs.books.pq_book_record.Tie as tie
 
-record-crossed-requires : tie.Need-record-crossed-requires
-record-crossed-requires c κs = rw c.record-at.ensures (told-small version1 one _ fieldless _)
+record_crossed-requires : tie.Need-record_crossed-requires
+record_crossed-requires c κs = rw c.record_at.ensures (told-small version1 one _ fieldless _)
 
 returns : tie.Need-returns
-returns c = c.record-crossed.ensures ∙ ap record_crossed c.before.record-at.ensures
+returns c = c.record_crossed.ensures ∙ ap record_crossed c.record_at.ensures
 
-pub pq-book-record-spec : {M : Type 1} → statement M
-pq-book-record-spec = tie.close (tie.spec (λ c κs. search rules) record-crossed-requires returns)
+pub pq_book_record_spec : {M : Type 1} → statement M
+pq_book_record_spec = tie.close (tie.spec (λ c κs. search rules) record_crossed-requires returns)

@@ -3,12 +3,12 @@ use borrow.Author.Rules.{rules}
 use Rattle.pennyquill.proofs.books.start_crossed.Statement.{statement}
 use Rattle.pennyquill.proofs.books.start_crossed.Tie as tie
 
-returns : tie.Need-returns
-returns c = rw c.before.enum_told.given.1 c.gives.ensures
+returns : tie.Need-returns-in-Written
+returns c = rw c.in-Written.is c.gives.ensures
 
-returns-2 : tie.Need-returns-2
-returns-2 c = rw c.before.enum-told2.given.1 c.refused.ensures
+returns-2 : tie.Need-returns-in-NoRoom
+returns-2 c = rw c.in-NoRoom.is c.refused.ensures
 
-pub start-crossed-spec : {M : Type 1} → statement M
-start-crossed-spec =
+pub start_crossed_spec : {M : Type 1} → statement M
+start_crossed_spec =
     tie.close (tie.spec (λ c. search rules) (λ c κs. search rules) (λ c. search rules) (λ c κs. search rules) returns returns-2)

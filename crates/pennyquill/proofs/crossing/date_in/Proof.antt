@@ -8,7 +8,7 @@ use Rattle.pennyquill.proofs.crossing.date_in.Statement.{statement}
 use Rattle.pennyquill.proofs.crossing.date_in.Tie as tie
 
 returns : tie.Need-returns
-returns c = same-stored (held w16 c.year-of-twos.type-inv ∙ c.year-of-twos.ensures) refl
+returns c = same-stored (held w16 c.year_of_twos-year.type_inv ∙ c.year_of_twos-year.ensures) refl
 
-pub date-in-spec : {M : Type 1} → statement M
-date-in-spec = tie.close (tie.spec (λ c. search rules) (λ c κs. search rules) (λ c. search rules) returns)
+pub date_in_spec : {M : Type 1} → statement M
+date_in_spec = tie.close (tie.spec (λ c. search rules) (λ c κs. search rules) (λ c. search rules) returns)

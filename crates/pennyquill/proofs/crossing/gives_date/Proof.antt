@@ -7,7 +7,7 @@ use Rattle.pennyquill.proofs.crossing.gives_date.Statement.{statement}
 use Rattle.pennyquill.proofs.crossing.gives_date.Tie as tie
 
 returns : tie.Need-returns
-returns c = c.gives.ensures ∙ ap (λ n. crossed (Gives n)) c.before.date-number.ensures
+returns c = c.gives.ensures ∙ ap (λ n. crossed (Gives n)) c.date_number.ensures
 
-pub gives-date-spec : {M : Type 1} → statement M
-gives-date-spec = tie.close (tie.spec (λ c κs. search rules) (λ c κs. search rules) returns)
+pub gives_date_spec : {M : Type 1} → statement M
+gives_date_spec = tie.close (tie.spec (λ c κs. search rules) (λ c κs. search rules) returns)

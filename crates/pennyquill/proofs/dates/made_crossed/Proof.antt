@@ -3,13 +3,13 @@ use borrow.Author.Rules.{rules}
 use Rattle.pennyquill.proofs.dates.made_crossed.Statement.{statement}
 use Rattle.pennyquill.proofs.dates.made_crossed.Tie as tie
 
-returns : tie.Need-returns
-returns c = rw c.before.before.made.given.1 c.gives-date.ensures
+returns : tie.Need-returns-in-Date
+returns c = rw c.in-Date.is c.gives_date.ensures
 
-returns-2 : tie.Need-returns-2
-returns-2 c = rw c.before.enum_told.given.1 c.not-of-kind.ensures
+returns-2 : tie.Need-returns-in-None
+returns-2 c = rw c.in-None.is c.not_of_kind.ensures
 
-pub made-crossed-spec : {M : Type 1} → statement M
-made-crossed-spec =
+pub made_crossed_spec : {M : Type 1} → statement M
+made_crossed_spec =
     tie.close
     (tie.spec (λ c. search rules) (λ c κs. search rules) (λ c. search rules) (λ c κs. search rules) returns returns-2)

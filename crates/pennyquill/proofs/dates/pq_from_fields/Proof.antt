@@ -7,17 +7,17 @@ use borrow.Author.Rules.{rules}
 use Rattle.pennyquill.proofs.dates.pq_from_fields.Statement.{statement}
 use Rattle.pennyquill.proofs.dates.pq_from_fields.Tie as tie
 
-returns : tie.Need-returns
+returns : tie.Need-returns-in_default
 returns c =
-    rw (by_code c.before.before.before.kind-of-code.ensures c.before.enum_told.given.1) c.not-of-kind.ensures
+    rw (by_code c.kind_of_code.ensures c.in_default.is) c.not_of_kind.ensures
 
-returns-2 : tie.Need-returns-2
+returns-2 : tie.Need-returns
 returns-2 c =
-    rw (by_code c.before.before.before.before.before.kind-of-code.ensures c.before.before.before.kind.given.1)
-    (c.made-crossed.ensures ∙ ap bits_crossed (rw (to_z-of_z c.before.before.before.before.before.before.ranges.year) at c.before.from_Fields.ensures))
+    rw (by_code c.kind_of_code.ensures c.in-Kind.is)
+    (c.made_crossed.ensures ∙ ap bits_crossed (rw (to_z-of_z c.ranges.year) at c.from_fields.ensures))
 
-pub pq-from-fields-spec : {M : Type 1} → statement M
-pq-from-fields-spec =
+pub pq_from_fields_spec : {M : Type 1} → statement M
+pq_from_fields_spec =
     tie.close
     (tie.spec
     (λ c κs. search rules)

@@ -8,24 +8,24 @@ use borrow.Author.Rules.{rules}
 use Rattle.pennyquill.proofs.dates.pq_guess_number.Statement.{statement}
 use Rattle.pennyquill.proofs.dates.pq_guess_number.Tie as tie
 
-returns : tie.Need-returns
+returns : tie.Need-returns-in_default
 returns c =
-    rw (by_code c.before.before.before.kind-of-code.ensures c.before.enum_told.given.1) c.not-of-kind.ensures
+    rw (by_code c.kind_of_code.ensures c.in_default.is) c.not_of_kind.ensures
 
-from-binary-heuristic-requires : tie.Need-from-binary-heuristic-requires
-from-binary-heuristic-requires c κs = sym c.before.has-guess.ensures ∙ c.if1.true
+from_binary_heuristic-requires : tie.Need-from_binary_heuristic-requires
+from_binary_heuristic-requires c κs = sym c.has_guess.ensures ∙ c.if-has_guess.true
 
-returns-2 : tie.Need-returns-2
+returns-2 : tie.Need-returns-then-has_guess
 returns-2 c =
-    rw (by_code c.before.before.before.before.before.before.before.kind-of-code.ensures c.before.before.before.before.before.kind.given.1) (c.guess-crossed.ensures ∙ ap bits_crossed (rw (to_z-of_z c.before.before.before.before.before.before.before.before.ranges.number) at c.before.from-binary-heuristic.ensures))
+    rw (by_code c.kind_of_code.ensures c.in-Kind.is) (c.guess_crossed.ensures ∙ ap bits_crossed (rw (to_z-of_z c.ranges.number) at c.from_binary_heuristic.ensures))
 
-returns-3 : tie.Need-returns-3
+returns-3 : tie.Need-returns
 unfolding guess_number
 returns-3 c =
-    rw (by_code c.before.before.before.before.before.before.kind-of-code.ensures c.before.before.before.before.kind.given.1, sym c.before.before.has-guess.ensures ∙ c.before.if1.false) c.not-of-kind2.ensures
+    rw (by_code c.kind_of_code.ensures c.in-Kind.is, sym c.has_guess.ensures ∙ c.if-has_guess.false) c.not_of_kind-2.ensures
 
-pub pq-guess-number-spec : {M : Type 1} → statement M
-pq-guess-number-spec =
+pub pq_guess_number_spec : {M : Type 1} → statement M
+pq_guess_number_spec =
     tie.close
     (tie.spec
     (λ c κs. search rules)
@@ -34,7 +34,7 @@ pq-guess-number-spec =
     (λ c κs. search rules)
     returns
     (λ c κs. search rules)
-    from-binary-heuristic-requires
+    from_binary_heuristic-requires
     (λ c κs. search rules)
     returns-2
     (λ c κs. search rules)

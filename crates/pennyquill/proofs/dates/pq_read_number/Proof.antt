@@ -8,24 +8,24 @@ use borrow.Author.Rules.{rules}
 use Rattle.pennyquill.proofs.dates.pq_read_number.Statement.{statement}
 use Rattle.pennyquill.proofs.dates.pq_read_number.Tie as tie
 
-returns : tie.Need-returns
+returns : tie.Need-returns-in_default
 returns c =
-    rw (by_code c.before.before.before.kind-of-code.ensures c.before.enum_told.given.1) c.not-of-kind.ensures
+    rw (by_code c.kind_of_code.ensures c.in_default.is) c.not_of_kind.ensures
 
-from-binary-requires : tie.Need-from-binary-requires
-from-binary-requires c κs = sym c.before.reads-numbers.ensures ∙ c.if1.true
+from_binary-requires : tie.Need-from_binary-requires
+from_binary-requires c κs = sym c.reads_numbers.ensures ∙ c.if-reads_numbers.true
 
-returns-2 : tie.Need-returns-2
+returns-2 : tie.Need-returns-then-reads_numbers
 returns-2 c =
-    rw (by_code c.before.before.before.before.before.before.before.kind-of-code.ensures c.before.before.before.before.before.kind.given.1) (c.read-crossed.ensures ∙ ap bits_crossed (rw (to_z-of_z c.before.before.before.before.before.before.before.before.ranges.number) at c.before.from-binary.ensures))
+    rw (by_code c.kind_of_code.ensures c.in-Kind.is) (c.read_crossed.ensures ∙ ap bits_crossed (rw (to_z-of_z c.ranges.number) at c.from_binary.ensures))
 
-returns-3 : tie.Need-returns-3
+returns-3 : tie.Need-returns
 unfolding read_number
 returns-3 c =
-    rw (by_code c.before.before.before.before.before.before.kind-of-code.ensures c.before.before.before.before.kind.given.1, sym c.before.before.reads-numbers.ensures ∙ c.before.if1.false) c.not-of-kind2.ensures
+    rw (by_code c.kind_of_code.ensures c.in-Kind.is, sym c.reads_numbers.ensures ∙ c.if-reads_numbers.false) c.not_of_kind-2.ensures
 
-pub pq-read-number-spec : {M : Type 1} → statement M
-pq-read-number-spec =
+pub pq_read_number_spec : {M : Type 1} → statement M
+pq_read_number_spec =
     tie.close
     (tie.spec
     (λ c κs. search rules)
@@ -34,7 +34,7 @@ pq-read-number-spec =
     (λ c κs. search rules)
     returns
     (λ c κs. search rules)
-    from-binary-requires
+    from_binary-requires
     (λ c κs. search rules)
     returns-2
     (λ c κs. search rules)

@@ -6,16 +6,16 @@ use borrow.Author.Rules.{rules}
 use Rattle.pennyquill.proofs.dates.pq_without_mark.Statement.{statement}
 use Rattle.pennyquill.proofs.dates.pq_without_mark.Tie as tie
 
-returns : tie.Need-returns
+returns : tie.Need-returns-in_default
 returns c =
-    rw (by_code c.before.before.before.kind-of-code.ensures c.before.enum_told.given.1) c.not-of-kind.ensures
+    rw (by_code c.kind_of_code.ensures c.in_default.is) c.not_of_kind.ensures
 
-returns-2 : tie.Need-returns-2
+returns-2 : tie.Need-returns
 returns-2 c =
-    rw (by_code c.before.before.before.before.before.before.kind-of-code.ensures c.before.before.before.before.kind.given.1, ← c.before.before.date-in.ensures) (c.made-crossed.ensures ∙ ap bits_crossed c.before.without-mark.ensures)
+    rw (by_code c.kind_of_code.ensures c.in-Kind.is, ← c.date_in.ensures) (c.made_crossed.ensures ∙ ap bits_crossed c.without_mark.ensures)
 
-pub pq-without-mark-spec : {M : Type 1} → statement M
-pq-without-mark-spec =
+pub pq_without_mark_spec : {M : Type 1} → statement M
+pq_without_mark_spec =
     tie.close
     (tie.spec
     (λ c κs. search rules)

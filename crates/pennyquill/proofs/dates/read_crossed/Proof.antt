@@ -3,13 +3,13 @@ use borrow.Author.Rules.{rules}
 use Rattle.pennyquill.proofs.dates.read_crossed.Statement.{statement}
 use Rattle.pennyquill.proofs.dates.read_crossed.Tie as tie
 
-returns : tie.Need-returns
-returns c = rw c.before.before.read.given.1 c.gives-date.ensures
+returns : tie.Need-returns-in-Date
+returns c = rw c.in-Date.is c.gives_date.ensures
 
-returns-2 : tie.Need-returns-2
-returns-2 c = rw c.before.enum_told.given.1 c.refused.ensures
+returns-2 : tie.Need-returns-in-NotNumber
+returns-2 c = rw c.in-NotNumber.is c.refused.ensures
 
-pub read-crossed-spec : {M : Type 1} → statement M
-read-crossed-spec =
+pub read_crossed_spec : {M : Type 1} → statement M
+read_crossed_spec =
     tie.close
     (tie.spec (λ c. search rules) (λ c κs. search rules) (λ c. search rules) (λ c κs. search rules) returns returns-2)

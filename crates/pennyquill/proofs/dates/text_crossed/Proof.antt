@@ -3,17 +3,17 @@ use borrow.Author.Rules.{rules}
 use Rattle.pennyquill.proofs.dates.text_crossed.Statement.{statement}
 use Rattle.pennyquill.proofs.dates.text_crossed.Tie as tie
 
-returns : tie.Need-returns
-returns c = rw c.before.before.text.given.1 c.gives-date.ensures
+returns : tie.Need-returns-in-Date
+returns c = rw c.in-Date.is c.gives_date.ensures
 
-returns-2 : tie.Need-returns-2
-returns-2 c = rw c.before.enum_told.given.1 c.refused.ensures
+returns-2 : tie.Need-returns-in-TooLong
+returns-2 c = rw c.in-TooLong.is c.refused.ensures
 
-returns-3 : tie.Need-returns-3
-returns-3 c = rw c.before.enum-told2.given.1 c.refused2.ensures
+returns-3 : tie.Need-returns-in-NotText
+returns-3 c = rw c.in-NotText.is c.refused-in-NotText.ensures
 
-pub text-crossed-spec : {M : Type 1} → statement M
-text-crossed-spec =
+pub text_crossed_spec : {M : Type 1} → statement M
+text_crossed_spec =
     tie.close
     (tie.spec
     (λ c. search rules)

@@ -9,11 +9,11 @@ use borrow.Author.Rules.{rules}
 use Rattle.pennyquill.proofs.days.days_crossed.Statement.{statement}
 use Rattle.pennyquill.proofs.days.days_crossed.Tie as tie
 
-returns : tie.Need-returns
+returns : tie.Need-returns-in-Days
 returns c =
-    rw c.before.before.days.given.1 (c.gives-number.ensures ∙ ap (λ (z : ℤ). number_crossed (Gives z)) (held w32 {z = c.before.before.days.given.0.0} c.before.known-told.given.0.1))
+    rw c.in-Days.is (c.gives_number.ensures ∙ ap (λ (z : ℤ). number_crossed (Gives z)) (held w32 {z = c.in-Days.n} c.in-Days.known_told-1-own.given.0.1))
 
-pub days-crossed-spec : {M : Type 1} → statement M
-days-crossed-spec =
+pub days_crossed_spec : {M : Type 1} → statement M
+days_crossed_spec =
     tie.close
     (tie.spec (λ c. search rules) (λ c κs. search rules) (λ c. search rules) (λ c κs. search rules) returns (λ c. search rules))

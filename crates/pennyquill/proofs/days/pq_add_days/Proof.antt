@@ -10,20 +10,20 @@ use borrow.Author.Rules.{rules}
 use Rattle.pennyquill.proofs.days.pq_add_days.Statement.{statement}
 use Rattle.pennyquill.proofs.days.pq_add_days.Tie as tie
 
-returns : tie.Need-returns
+returns : tie.Need-returns-in_default
 returns c =
-    rw (by_code c.before.before.before.kind-of-code.ensures c.before.enum_told.given.1) c.not-of-kind.ensures
+    rw (by_code c.kind_of_code.ensures c.in_default.is) c.not_of_kind.ensures
 
-returns-2 : tie.Need-returns-2
+returns-2 : tie.Need-returns
 returns-2 c =
-    let start = c.before.before.before.before.before.before.before in
-    let k = kind_of c.before.before.before.before.kind.given.0.0 in
-    rw (by_code c.before.before.before.before.before.before.kind-of-code.ensures c.before.before.before.before.kind.given.1)
-    (c.sum-crossed.ensures
-    ∙ ap bits_crossed (like-date (λ d. of_date k d (λ f. add_days k f start.args.days)) c.before.before.date-in.ensures (rw (to_z-of_z start.ranges.days) at c.before.add-days.ensures)))
+    let start = c in
+    let k = kind_of c.in-Kind.kind in
+    rw (by_code c.kind_of_code.ensures c.in-Kind.is)
+    (c.sum_crossed.ensures
+    ∙ ap bits_crossed (like-date (λ d. of_date k d (λ f. add_days k f start.args.days)) c.date_in.ensures (rw (to_z-of_z start.ranges.days) at c.add_days.ensures)))
 
-pub pq-add-days-spec : {M : Type 1} → statement M
-pq-add-days-spec =
+pub pq_add_days_spec : {M : Type 1} → statement M
+pq_add_days_spec =
     tie.close
     (tie.spec
     (λ c κs. search rules)

@@ -6,16 +6,16 @@ use borrow.Author.Rules.{rules}
 use Rattle.pennyquill.proofs.days.pq_days_until.Statement.{statement}
 use Rattle.pennyquill.proofs.days.pq_days_until.Tie as tie
 
-returns : tie.Need-returns
+returns : tie.Need-returns-in_default
 returns c =
-    rw (by_code c.before.before.before.kind-of-code.ensures c.before.enum_told.given.1) c.no_number.ensures
+    rw (by_code c.kind_of_code.ensures c.in_default.is) c.no_number.ensures
 
-returns-2 : tie.Need-returns-2
+returns-2 : tie.Need-returns
 returns-2 c =
-    rw (by_code c.before.before.before.before.before.before.before.kind-of-code.ensures c.before.before.before.before.before.kind.given.1, ← c.before.before.before.date-in.ensures, ← c.before.before.date-in2.ensures) (c.days-crossed.ensures ∙ ap number_crossed c.before.days-until.ensures)
+    rw (by_code c.kind_of_code.ensures c.in-Kind.is, ← c.date_in.ensures, ← c.date_in-2.ensures) (c.days_crossed.ensures ∙ ap number_crossed c.days_until.ensures)
 
-pub pq-days-until-spec : {M : Type 1} → statement M
-pq-days-until-spec =
+pub pq_days_until_spec : {M : Type 1} → statement M
+pq_days_until_spec =
     tie.close
     (tie.spec
     (λ c κs. search rules)

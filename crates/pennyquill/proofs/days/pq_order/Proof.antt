@@ -6,16 +6,16 @@ use borrow.Author.Rules.{rules}
 use Rattle.pennyquill.proofs.days.pq_order.Statement.{statement}
 use Rattle.pennyquill.proofs.days.pq_order.Tie as tie
 
-returns : tie.Need-returns
+returns : tie.Need-returns-in_default
 returns c =
-    rw (by_code c.before.before.before.kind-of-code.ensures c.before.enum_told.given.1) c.no_number.ensures
+    rw (by_code c.kind_of_code.ensures c.in_default.is) c.no_number.ensures
 
-returns-2 : tie.Need-returns-2
+returns-2 : tie.Need-returns
 returns-2 c =
-    rw (by_code c.before.before.before.before.before.before.before.kind-of-code.ensures c.before.before.before.before.before.kind.given.1, ← c.before.before.before.date-in.ensures, ← c.before.before.date-in2.ensures) (c.order-crossed.ensures ∙ ap order_crossed c.before.compare.ensures)
+    rw (by_code c.kind_of_code.ensures c.in-Kind.is, ← c.date_in.ensures, ← c.date_in-2.ensures) (c.order_crossed.ensures ∙ ap order_crossed c.compare.ensures)
 
-pub pq-order-spec : {M : Type 1} → statement M
-pq-order-spec =
+pub pq_order_spec : {M : Type 1} → statement M
+pq_order_spec =
     tie.close
     (tie.spec
     (λ c κs. search rules)

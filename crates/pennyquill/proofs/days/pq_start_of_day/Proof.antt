@@ -9,18 +9,18 @@ use borrow.Author.Rules.{rules}
 use Rattle.pennyquill.proofs.days.pq_start_of_day.Statement.{statement}
 use Rattle.pennyquill.proofs.days.pq_start_of_day.Tie as tie
 
-returns : tie.Need-returns
+returns : tie.Need-returns-in_default
 returns c =
-    rw (by_code c.before.before.before.kind-of-code.ensures c.before.enum_told.given.1) c.not-of-kind.ensures
+    rw (by_code c.kind_of_code.ensures c.in_default.is) c.not_of_kind.ensures
 
-returns-2 : tie.Need-returns-2
+returns-2 : tie.Need-returns
 returns-2 c =
-    let k = kind_of c.before.before.before.before.kind.given.0.0 in
-    rw (by_code c.before.before.before.before.before.before.kind-of-code.ensures c.before.before.before.before.kind.given.1)
-    (c.start-crossed.ensures ∙ ap bits_crossed (like-date (λ d. of_date k d (λ f. start_of_day k f)) c.before.before.date-in.ensures c.before.start-of-day.ensures))
+    let k = kind_of c.in-Kind.kind in
+    rw (by_code c.kind_of_code.ensures c.in-Kind.is)
+    (c.start_crossed.ensures ∙ ap bits_crossed (like-date (λ d. of_date k d (λ f. start_of_day k f)) c.date_in.ensures c.start_of_day.ensures))
 
-pub pq-start-of-day-spec : {M : Type 1} → statement M
-pq-start-of-day-spec =
+pub pq_start_of_day_spec : {M : Type 1} → statement M
+pq_start_of_day_spec =
     tie.close
     (tie.spec
     (λ c κs. search rules)

@@ -6,16 +6,16 @@ use borrow.Author.Rules.{rules}
 use Rattle.pennyquill.proofs.days.pq_to_number.Statement.{statement}
 use Rattle.pennyquill.proofs.days.pq_to_number.Tie as tie
 
-returns : tie.Need-returns
+returns : tie.Need-returns-in_default
 returns c =
-    rw (by_code c.before.before.before.kind-of-code.ensures c.before.enum_told.given.1) c.no_number.ensures
+    rw (by_code c.kind_of_code.ensures c.in_default.is) c.no_number.ensures
 
-returns-2 : tie.Need-returns-2
+returns-2 : tie.Need-returns
 returns-2 c =
-    rw (by_code c.before.before.before.before.before.before.kind-of-code.ensures c.before.before.before.before.kind.given.1, ← c.before.before.date-in.ensures) (c.written-crossed.ensures ∙ ap number_crossed c.before.to-binary.ensures)
+    rw (by_code c.kind_of_code.ensures c.in-Kind.is, ← c.date_in.ensures) (c.written_crossed.ensures ∙ ap number_crossed c.to_binary.ensures)
 
-pub pq-to-number-spec : {M : Type 1} → statement M
-pq-to-number-spec =
+pub pq_to_number_spec : {M : Type 1} → statement M
+pq_to_number_spec =
     tie.close
     (tie.spec
     (λ c κs. search rules)

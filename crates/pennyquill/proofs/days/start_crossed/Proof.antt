@@ -3,14 +3,14 @@ use borrow.Author.Rules.{rules}
 use Rattle.pennyquill.proofs.days.start_crossed.Statement.{statement}
 use Rattle.pennyquill.proofs.days.start_crossed.Tie as tie
 
-returns : tie.Need-returns
-returns c = rw c.before.before.start.given.1 c.gives-date.ensures
+returns : tie.Need-returns-in-Date
+returns c = rw c.in-Date.is c.gives_date.ensures
 
-returns-2 : tie.Need-returns-2
-returns-2 c = rw c.before.enum_told.given.1 c.not-of-kind.ensures
+returns-2 : tie.Need-returns-in-NotOfKind
+returns-2 c = rw c.in-NotOfKind.is c.not_of_kind.ensures
 
-pub start-crossed-spec : {M : Type 1} → statement M
-start-crossed-spec =
+pub start_crossed_spec : {M : Type 1} → statement M
+start_crossed_spec =
     tie.close
     (tie.spec
     (λ c. search rules)

@@ -9,12 +9,12 @@ use borrow.Author.Rules.{rules}
 use Rattle.pennyquill.proofs.days.written_crossed.Statement.{statement}
 use Rattle.pennyquill.proofs.days.written_crossed.Tie as tie
 
-returns : tie.Need-returns
+returns : tie.Need-returns-in-Number
 returns c =
-    rw c.before.before.written.given.1 (c.gives-number.ensures ∙ ap (λ (z : ℤ). number_crossed (Gives z)) (held w32 {z = c.before.before.written.given.0.0} c.before.known-told.given.0.1))
+    rw c.in-Number.is (c.gives_number.ensures ∙ ap (λ (z : ℤ). number_crossed (Gives z)) (held w32 {z = c.in-Number.n} c.in-Number.known_told-1-own.given.0.1))
 
-pub written-crossed-spec : {M : Type 1} → statement M
-written-crossed-spec =
+pub written_crossed_spec : {M : Type 1} → statement M
+written_crossed_spec =
     tie.close
     (tie.spec
     (λ c. search rules)

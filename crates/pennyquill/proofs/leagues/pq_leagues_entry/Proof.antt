@@ -6,7 +6,7 @@ use Rattle.pennyquill.proofs.leagues.pq_leagues_entry.Statement.{statement}
 use Rattle.pennyquill.proofs.leagues.pq_leagues_entry.Tie as tie
 
 returns : tie.Need-returns
-returns c = c.entry-crossed.ensures ∙ ap entry_crossed c.before.entry-at.ensures
+returns c = c.entry_crossed.ensures ∙ ap entry_crossed c.entry_at.ensures
 
-pub pq-leagues-entry-spec : {M : Type 1} → statement M
-pq-leagues-entry-spec = tie.close (tie.spec (λ c κs. search rules) (λ c κs. search rules) returns)
+pub pq_leagues_entry_spec : {M : Type 1} → statement M
+pq_leagues_entry_spec = tie.close (tie.spec (λ c κs. search rules) (λ c κs. search rules) returns)

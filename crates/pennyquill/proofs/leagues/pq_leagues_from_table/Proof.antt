@@ -6,13 +6,13 @@ use borrow.Author.Rules.{rules}
 use Rattle.pennyquill.proofs.leagues.pq_leagues_from_table.Statement.{statement}
 use Rattle.pennyquill.proofs.leagues.pq_leagues_from_table.Tie as tie
 
-change-crossed-requires : tie.Need-change-crossed-requires
-change-crossed-requires c κs = moved-small _ _ c.before.before.from-table.result c.before.before.from-table.ensures.0
+change_crossed-requires : tie.Need-change_crossed-requires
+change_crossed-requires c κs = moved-small _ _ c.from_table.result c.from_table.ensures.0
 
 returns : tie.Need-returns
 returns c =
-    (c.change-crossed.ensures ∙ ap crossed c.before.before.before.from-table.ensures.0, c.before.before.before.from-table.ensures.1)
+    (c.change_crossed.ensures ∙ ap crossed c.from_table.ensures.0, c.from_table.ensures.1)
 
-pub pq-leagues-from-table-spec : {M : Type 1} → statement M
-pq-leagues-from-table-spec =
-    tie.close (tie.spec (λ c κs. search rules) change-crossed-requires (λ c. search rules) returns)
+pub pq_leagues_from_table_spec : {M : Type 1} → statement M
+pq_leagues_from_table_spec =
+    tie.close (tie.spec (λ c κs. search rules) change_crossed-requires (λ c. search rules) returns)

@@ -4,20 +4,20 @@ use borrow.Author.Rules.{rules}
 use Rattle.pennyquill.proofs.listings.lent_crossed.Statement.{statement}
 use Rattle.pennyquill.proofs.listings.lent_crossed.Tie as tie
 
-cast-gives : tie.Need-overflow-cast-gives
-cast-gives c = omega (arith, rw c.before.lent.given.1 at c.before.before.before.requires)
+cast-gives : tie.Need-overflow_cast-n
+cast-gives c = omega (arith, rw c.in-Length.is at c.requires)
 
-returns : tie.Need-returns
-returns c = rw c.before.before.lent.given.1 c.gives.ensures
+returns : tie.Need-returns-in-Length
+returns c = rw c.in-Length.is c.gives.ensures
 
-returns-2 : tie.Need-returns-2
-returns-2 c = rw c.before.enum_told.given.1 c.refused.ensures
+returns-2 : tie.Need-returns-in-TooLong
+returns-2 c = rw c.in-TooLong.is c.refused.ensures
 
-returns-3 : tie.Need-returns-3
-returns-3 c = rw c.before.enum-told2.given.1 c.refused2.ensures
+returns-3 : tie.Need-returns-in-Short
+returns-3 c = rw c.in-Short.is c.refused-in-Short.ensures
 
-pub lent-crossed-spec : {M : Type 1} → statement M
-lent-crossed-spec =
+pub lent_crossed_spec : {M : Type 1} → statement M
+lent_crossed_spec =
     tie.close
     (tie.spec
     (λ c. search rules)

@@ -6,11 +6,11 @@ use borrow.Author.Rules.{rules}
 use Rattle.pennyquill.proofs.listings.pq_listing_room.Statement.{statement}
 use Rattle.pennyquill.proofs.listings.pq_listing_room.Tie as tie
 
-lent-crossed-requires : tie.Need-lent-crossed-requires
-lent-crossed-requires c κs = rw c.room_for.ensures (room_small _)
+lent_crossed-requires : tie.Need-lent_crossed-requires
+lent_crossed-requires c κs = rw c.room_for.ensures (room_small _)
 
 returns : tie.Need-returns
-returns c = c.lent-crossed.ensures ∙ ap crossed c.before.room_for.ensures
+returns c = c.lent_crossed.ensures ∙ ap crossed c.room_for.ensures
 
-pub pq-listing-room-spec : {M : Type 1} → statement M
-pq-listing-room-spec = tie.close (tie.spec (λ c κs. search rules) lent-crossed-requires returns)
+pub pq_listing_room_spec : {M : Type 1} → statement M
+pq_listing_room_spec = tie.close (tie.spec (λ c κs. search rules) lent_crossed-requires returns)

@@ -4,29 +4,29 @@ use borrow.Author.Rules.{rules}
 use Rattle.pennyquill.proofs.tables.change_crossed.Statement.{statement}
 use Rattle.pennyquill.proofs.tables.change_crossed.Tie as tie
 
-cast-gives : tie.Need-overflow-cast-gives
-cast-gives c = omega (arith, rw c.before.changed.given.1 at c.before.before.before.requires)
+cast-gives : tie.Need-overflow_cast-n
+cast-gives c = omega (arith, rw c.in-Entries.is at c.requires)
 
-returns : tie.Need-returns
-returns c = rw c.before.before.changed.given.1 c.gives.ensures
+returns : tie.Need-returns-in-Entries
+returns c = rw c.in-Entries.is c.gives.ensures
 
-returns-2 : tie.Need-returns-2
-returns-2 c = rw c.before.enum_told.given.1 c.refused.ensures
+returns-2 : tie.Need-returns-in-BadLength
+returns-2 c = rw c.in-BadLength.is c.refused.ensures
 
-returns-3 : tie.Need-returns-3
-returns-3 c = rw c.before.enum-told2.given.1 c.refused2.ensures
+returns-3 : tie.Need-returns-in-BadVersion
+returns-3 c = rw c.in-BadVersion.is c.refused-in-BadVersion.ensures
 
-returns-4 : tie.Need-returns-4
-returns-4 c = rw c.before.enum-told3.given.1 c.refused3.ensures
+returns-4 : tie.Need-returns-in-BadEntry
+returns-4 c = rw c.in-BadEntry.is c.refused-in-BadEntry.ensures
 
-returns-5 : tie.Need-returns-5
-returns-5 c = rw c.before.enum-told4.given.1 c.refused4.ensures
+returns-5 : tie.Need-returns-in-Full
+returns-5 c = rw c.in-Full.is c.refused-in-Full.ensures
 
-returns-6 : tie.Need-returns-6
-returns-6 c = rw c.before.enum-told5.given.1 c.refused5.ensures
+returns-6 : tie.Need-returns-in-NotThere
+returns-6 c = rw c.in-NotThere.is c.refused-in-NotThere.ensures
 
-pub change-crossed-spec : {M : Type 1} → statement M
-change-crossed-spec =
+pub change_crossed_spec : {M : Type 1} → statement M
+change_crossed_spec =
     tie.close
     (tie.spec
     (λ c. search rules)

@@ -4,23 +4,23 @@ use borrow.Author.Rules.{rules}
 use Rattle.pennyquill.proofs.tables.count_crossed.Statement.{statement}
 use Rattle.pennyquill.proofs.tables.count_crossed.Tie as tie
 
-cast-gives : tie.Need-overflow-cast-gives
-cast-gives c = omega (arith, rw c.before.checked.given.1 at c.before.before.before.requires)
+cast-gives : tie.Need-overflow_cast-n
+cast-gives c = omega (arith, rw c.in-Entries.is at c.requires)
 
-returns : tie.Need-returns
-returns c = rw c.before.before.checked.given.1 c.gives.ensures
+returns : tie.Need-returns-in-Entries
+returns c = rw c.in-Entries.is c.gives.ensures
 
-returns-2 : tie.Need-returns-2
-returns-2 c = rw c.before.enum_told.given.1 c.refused.ensures
+returns-2 : tie.Need-returns-in-BadLength
+returns-2 c = rw c.in-BadLength.is c.refused.ensures
 
-returns-3 : tie.Need-returns-3
-returns-3 c = rw c.before.enum-told2.given.1 c.refused2.ensures
+returns-3 : tie.Need-returns-in-BadVersion
+returns-3 c = rw c.in-BadVersion.is c.refused-in-BadVersion.ensures
 
-returns-4 : tie.Need-returns-4
-returns-4 c = rw c.before.enum-told3.given.1 c.refused3.ensures
+returns-4 : tie.Need-returns-in-BadEntry
+returns-4 c = rw c.in-BadEntry.is c.refused-in-BadEntry.ensures
 
-pub count-crossed-spec : {M : Type 1} → statement M
-count-crossed-spec =
+pub count_crossed_spec : {M : Type 1} → statement M
+count_crossed_spec =
     tie.close
     (tie.spec
     (λ c. search rules)

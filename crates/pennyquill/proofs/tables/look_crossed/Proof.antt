@@ -3,28 +3,28 @@ use borrow.Author.Rules.{rules}
 use Rattle.pennyquill.proofs.tables.look_crossed.Statement.{statement}
 use Rattle.pennyquill.proofs.tables.look_crossed.Tie as tie
 
-returns : tie.Need-returns
+returns : tie.Need-returns-in-Declared
 returns c =
-    rw (c.before.before.before.looked.given.1, ← c.before.kind-code.ensures, ← c.date-number.ensures)
+    rw (c.in-Declared.is, ← c.kind_code.ensures, ← c.date_number.ensures)
 
-returns-2 : tie.Need-returns-2
+returns-2 : tie.Need-returns-in-Guessed
 returns-2 c =
-    rw (c.before.before.before.looked2.given.1, ← c.before.kind-code2.ensures, ← c.date-number2.ensures)
+    rw (c.in-Guessed.is, ← c.kind_code-in-Guessed.ensures, ← c.date_number-in-Guessed.ensures)
 
-returns-3 : tie.Need-returns-3
-returns-3 c = rw c.before.enum_told.given.1 c.not-looked.ensures
+returns-3 : tie.Need-returns-in-BadLength
+returns-3 c = rw c.in-BadLength.is c.not_looked.ensures
 
-returns-4 : tie.Need-returns-4
-returns-4 c = rw c.before.enum-told2.given.1 c.not-looked2.ensures
+returns-4 : tie.Need-returns-in-BadVersion
+returns-4 c = rw c.in-BadVersion.is c.not_looked-in-BadVersion.ensures
 
-returns-5 : tie.Need-returns-5
-returns-5 c = rw c.before.enum-told3.given.1 c.not-looked3.ensures
+returns-5 : tie.Need-returns-in-BadEntry
+returns-5 c = rw c.in-BadEntry.is c.not_looked-in-BadEntry.ensures
 
-returns-6 : tie.Need-returns-6
-returns-6 c = rw c.before.enum-told4.given.1 c.not-looked4.ensures
+returns-6 : tie.Need-returns-in-NotNumber
+returns-6 c = rw c.in-NotNumber.is c.not_looked-in-NotNumber.ensures
 
-pub look-crossed-spec : {M : Type 1} → statement M
-look-crossed-spec =
+pub look_crossed_spec : {M : Type 1} → statement M
+look_crossed_spec =
     tie.close
     (tie.spec
     (λ c. search rules)

@@ -6,11 +6,11 @@ use borrow.Author.Rules.{rules}
 use Rattle.pennyquill.proofs.tables.pq_table_check.Statement.{statement}
 use Rattle.pennyquill.proofs.tables.pq_table_check.Tie as tie
 
-count-crossed-requires : tie.Need-count-crossed-requires
-count-crossed-requires c κs = checked-small c.before.before.args.table.now c.check.result c.check.ensures
+count_crossed-requires : tie.Need-count_crossed-requires
+count_crossed-requires c κs = checked-small c.args.table.now c.check.result c.check.ensures
 
 returns : tie.Need-returns
-returns c = c.count-crossed.ensures ∙ ap crossed c.before.check.ensures
+returns c = c.count_crossed.ensures ∙ ap crossed c.check.ensures
 
-pub pq-table-check-spec : {M : Type 1} → statement M
-pq-table-check-spec = tie.close (tie.spec (λ c κs. search rules) count-crossed-requires returns)
+pub pq_table_check_spec : {M : Type 1} → statement M
+pq_table_check_spec = tie.close (tie.spec (λ c κs. search rules) count_crossed-requires returns)

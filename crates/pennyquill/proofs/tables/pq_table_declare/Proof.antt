@@ -6,14 +6,14 @@ use borrow.Author.Rules.{rules}
 use Rattle.pennyquill.proofs.tables.pq_table_declare.Statement.{statement}
 use Rattle.pennyquill.proofs.tables.pq_table_declare.Tie as tie
 
-change-crossed-requires : tie.Need-change-crossed-requires
-change-crossed-requires c κs =
-    declared-small c.before.before.before.before.before.args.table.now c.before.before.before.before.before.args.field c.before.before.before.before.before.args.kind c.before.before.declare.result c.before.before.declare.ensures.0
+change_crossed-requires : tie.Need-change_crossed-requires
+change_crossed-requires c κs =
+    declared-small c.args.table.now c.args.field c.args.kind c.declare.result c.declare.ensures.0
 
 returns : tie.Need-returns
 returns c =
-    (c.change-crossed.ensures ∙ ap crossed c.before.before.before.declare.ensures.0, c.before.before.before.declare.ensures.1)
+    (c.change_crossed.ensures ∙ ap crossed c.declare.ensures.0, c.declare.ensures.1)
 
-pub pq-table-declare-spec : {M : Type 1} → statement M
-pq-table-declare-spec =
-    tie.close (tie.spec (λ c κs. search rules) change-crossed-requires (λ c. search rules) returns)
+pub pq_table_declare_spec : {M : Type 1} → statement M
+pq_table_declare_spec =
+    tie.close (tie.spec (λ c κs. search rules) change_crossed-requires (λ c. search rules) returns)

@@ -6,7 +6,7 @@ use Rattle.pennyquill.proofs.tables.pq_table_entry.Statement.{statement}
 use Rattle.pennyquill.proofs.tables.pq_table_entry.Tie as tie
 
 returns : tie.Need-returns
-returns c = c.entry-crossed.ensures ∙ ap entry_crossed c.before.entry-at.ensures
+returns c = c.entry_crossed.ensures ∙ ap entry_crossed c.entry_at.ensures
 
-pub pq-table-entry-spec : {M : Type 1} → statement M
-pq-table-entry-spec = tie.close (tie.spec (λ c κs. search rules) (λ c κs. search rules) returns)
+pub pq_table_entry_spec : {M : Type 1} → statement M
+pq_table_entry_spec = tie.close (tie.spec (λ c κs. search rules) (λ c κs. search rules) returns)

@@ -8,7 +8,7 @@ use Rattle.pennyquill.proofs.tables.pq_table_lookup.Tie as tie
 
 returns : tie.Need-returns
 returns c =
-    c.look-crossed.ensures ∙ ap lookup_crossed (rw (to_z-of_z c.before.before.before.ranges.number) at c.before.lookup.ensures)
+    c.look_crossed.ensures ∙ ap lookup_crossed (rw (to_z-of_z c.ranges.number) at c.lookup.ensures)
 
-pub pq-table-lookup-spec : {M : Type 1} → statement M
-pq-table-lookup-spec = tie.close (tie.spec (λ c κs. search rules) (λ c κs. search rules) returns)
+pub pq_table_lookup_spec : {M : Type 1} → statement M
+pq_table_lookup_spec = tie.close (tie.spec (λ c κs. search rules) (λ c κs. search rules) returns)

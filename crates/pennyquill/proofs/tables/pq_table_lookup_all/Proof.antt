@@ -12,47 +12,47 @@ use Rattle.pennyquill.proofs.tables.pq_table_lookup_all.Statement.{statement}
 use Rattle.pennyquill.proofs.tables.pq_table_lookup_all.Tie as tie
 
 -- how many questions there are
-count : (c : tie.After-least3) →
-    let a = c.before.before.before.before.before.before.before.before.before.before.before.before.args in
-    c.least3.result ≡ asked a.fields.now a.numbers.now a.out.now
-count c = c.least3.ensures ∙ rw (c.before.before.least.ensures, c.before.least2.ensures)
+count : (c : tie.After-least-n) →
+    let a = c.args in
+    c.least-n.result ≡ asked a.fields.now a.numbers.now a.out.now
+count c = c.least-n.ensures ∙ rw (c.least-questions.ensures, c.least.ensures)
 
-all : (c : tie.After-least3) →
-    let a = c.before.before.before.before.before.before.before.before.before.before.before.before.args in
-    Enough c.least3.result (length a.fields.now) (length a.numbers.now) (length a.out.now)
+all : (c : tie.After-least-n) →
+    let a = c.args in
+    Enough c.least-n.result (length a.fields.now) (length a.numbers.now) (length a.out.now)
 all c =
-    let a = c.before.before.before.before.before.before.before.before.before.before.before.before.args in
+    let a = c.args in
     rw (count c) (enough (length a.fields.now) (length a.numbers.now) (length a.out.now))
 
-answer-all-requires : tie.Need-answer-all-requires
-answer-all-requires c κs =
-    let e = all c.before in (sym (ap given (ap checked_as (sym c.before.before.before.before.before.before.before.enum_told.given.1) ∙ c.before.before.before.before.before.before.before.before.before.check.ensures)), (e.in-fields, e.in-numbers, e.in-out))
+answer_all-requires : tie.Need-answer_all-requires
+answer_all-requires c κs =
+    let e = all c.before in (sym (ap given (ap checked_as (sym c.in-Entries.is) ∙ c.check-checked.ensures)), (e.in-fields, e.in-numbers, e.in-out))
 
-cast-gives : tie.Need-overflow-cast-gives
+cast-gives : tie.Need-overflow_cast-n
 cast-gives c = omega (arith, (all c.before.before.before.before).counts)
 
-returns : tie.Need-returns
+returns : tie.Need-returns-in-Kind
 returns c =
-    let a = c.before.before.before.before.before.before.before.before.before.before.before.before.before.before.before.before.before.args in let h : lookups a.table.now a.game-kind a.fields.now a.numbers.now a.out.now ≡ Gives c.before.before.before.before.before.least3.result = all_asked a.table.now a.game-kind a.fields.now a.numbers.now a.out.now (ap checked_as (sym c.before.before.before.before.before.before.before.before.before.before.before.enum_told.given.1) ∙ c.before.before.before.before.before.before.before.before.before.before.before.before.before.check.ensures) (ap allowed_as (sym c.before.before.before.before.before.before.before.before.enum-told2.given.1) ∙ c.before.before.before.before.before.before.before.before.before.before.game-kind.ensures) ∙ ap Gives (sym (count c.before.before.before.before.before)) in rw h (c.gives.ensures, c.before.before.before.answer-all.ensures)
+    let a = c.args in let h : lookups a.table.now a.game_kind a.fields.now a.numbers.now a.out.now ≡ Gives c.least-n.result = all_asked a.table.now a.game_kind a.fields.now a.numbers.now a.out.now (ap checked_as (sym c.in-Entries.is) ∙ c.check-checked.ensures) (ap allowed_as (sym c.in-Kind.is) ∙ c.game_kind-coded.ensures) ∙ ap Gives (sym (count c.before.before.before.before.before)) in rw h (c.gives.ensures, c.answer_all.ensures)
 
-returns-2 : tie.Need-returns-2
+returns-2 : tie.Need-returns-in-None
 returns-2 c =
-    let a = c.before.before.before.before.before.before.before.before.before.before.args in rw (no-game a.table.now a.game-kind a.fields.now a.numbers.now a.out.now (ap checked_as (sym c.before.before.before.before.enum_told.given.1) ∙ c.before.before.before.before.before.before.check.ensures) (ap allowed_as (sym c.before.enum-told3.given.1) ∙ c.before.before.before.game-kind.ensures)) (c.refused.ensures, refl)
+    let a = c.args in rw (no-game a.table.now a.game_kind a.fields.now a.numbers.now a.out.now (ap checked_as (sym c.in-Entries.is) ∙ c.check-checked.ensures) (ap allowed_as (sym c.in-None.is) ∙ c.game_kind-coded.ensures)) (c.refused.ensures, refl)
 
-returns-3 : tie.Need-returns-3
+returns-3 : tie.Need-returns-in-BadLength
 returns-3 c =
-    let a = c.before.before.before.before.before.before.before.args in rw (no_table a.table.now a.game-kind a.fields.now a.numbers.now a.out.now (ap checked_as (sym c.before.enum-told4.given.1) ∙ c.before.before.before.check.ensures)) (c.refused2.ensures, refl)
+    let a = c.args in rw (no_table a.table.now a.game_kind a.fields.now a.numbers.now a.out.now (ap checked_as (sym c.in-BadLength.is) ∙ c.check-checked.ensures)) (c.refused-in-BadLength.ensures, refl)
 
-returns-4 : tie.Need-returns-4
+returns-4 : tie.Need-returns-in-BadVersion
 returns-4 c =
-    let a = c.before.before.before.before.before.before.before.args in rw (no_table a.table.now a.game-kind a.fields.now a.numbers.now a.out.now (ap checked_as (sym c.before.enum-told5.given.1) ∙ c.before.before.before.check.ensures)) (c.refused3.ensures, refl)
+    let a = c.args in rw (no_table a.table.now a.game_kind a.fields.now a.numbers.now a.out.now (ap checked_as (sym c.in-BadVersion.is) ∙ c.check-checked.ensures)) (c.refused-in-BadVersion.ensures, refl)
 
-returns-5 : tie.Need-returns-5
+returns-5 : tie.Need-returns-in-BadEntry
 returns-5 c =
-    let a = c.before.before.before.before.before.before.before.args in rw (no_table a.table.now a.game-kind a.fields.now a.numbers.now a.out.now (ap checked_as (sym c.before.enum-told6.given.1) ∙ c.before.before.before.check.ensures)) (c.refused4.ensures, refl)
+    let a = c.args in rw (no_table a.table.now a.game_kind a.fields.now a.numbers.now a.out.now (ap checked_as (sym c.in-BadEntry.is) ∙ c.check-checked.ensures)) (c.refused-in-BadEntry.ensures, refl)
 
-pub pq-table-lookup-all-spec : {M : Type 1} → statement M
-pq-table-lookup-all-spec =
+pub pq_table_lookup_all_spec : {M : Type 1} → statement M
+pq_table_lookup_all_spec =
     tie.close
     (tie.spec
     (λ c κs. search rules)
@@ -62,7 +62,7 @@ pq-table-lookup-all-spec =
     (λ c κs. search rules)
     (λ c κs. search rules)
     (λ c κs. search rules)
-    answer-all-requires
+    answer_all-requires
     cast-gives
     (λ c κs. search rules)
     (λ c. search rules)

@@ -8,20 +8,20 @@ use borrow.Author.Rules.{rules}
 use Rattle.pennyquill.proofs.texts.pq_write_iso.Statement.{statement}
 use Rattle.pennyquill.proofs.texts.pq_write_iso.Tie as tie
 
-returns : tie.Need-returns
+returns : tie.Need-returns-in_default
 unfolding put_answer put_buffer
 returns c =
-    rw (by_code c.before.before.before.kind-of-code.ensures c.before.enum_told.given.1) (c.not-of-kind.ensures, refl)
+    rw (by_code c.kind_of_code.ensures c.in_default.is) (c.not_of_kind.ensures, refl)
 
-text-crossed-requires : tie.Need-text-crossed-requires
-text-crossed-requires c κs = rw c.before.before.iso-8601.ensures.0 (iso-small _ _ _)
+text_crossed-requires : tie.Need-text_crossed-requires
+text_crossed-requires c κs = rw c.iso_8601.ensures.0 (iso-small _ _ _)
 
-returns-2 : tie.Need-returns-2
+returns-2 : tie.Need-returns
 returns-2 c =
-    rw (by_code c.before.before.before.before.before.before.before.before.before.kind-of-code.ensures c.before.before.before.before.before.before.before.kind.given.1, ← c.before.before.before.before.before.date-in.ensures) (c.text-crossed.ensures ∙ ap crossed c.before.before.before.iso-8601.ensures.0, c.before.before.before.iso-8601.ensures.1.0)
+    rw (by_code c.kind_of_code.ensures c.in-Kind.is, ← c.date_in.ensures) (c.text_crossed.ensures ∙ ap crossed c.iso_8601.ensures.0, c.iso_8601.ensures.1.0)
 
-pub pq-write-iso-spec : {M : Type 1} → statement M
-pq-write-iso-spec =
+pub pq_write_iso_spec : {M : Type 1} → statement M
+pq_write_iso_spec =
     tie.close
     (tie.spec
     (λ c κs. search rules)
@@ -31,6 +31,6 @@ pq-write-iso-spec =
     returns
     (λ c κs. search rules)
     (λ c κs. search rules)
-    text-crossed-requires
+    text_crossed-requires
     (λ c. search rules)
     returns-2)

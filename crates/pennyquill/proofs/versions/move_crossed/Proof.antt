@@ -4,35 +4,35 @@ use borrow.Author.Rules.{rules}
 use Rattle.pennyquill.proofs.versions.move_crossed.Statement.{statement}
 use Rattle.pennyquill.proofs.versions.move_crossed.Tie as tie
 
-cast-gives : tie.Need-overflow-cast-gives
-cast-gives c = omega (arith, rw c.before.moved.given.1 at c.before.before.before.requires)
+cast-gives : tie.Need-overflow_cast-n
+cast-gives c = omega (arith, rw c.in-Records.is at c.requires)
 
-refused-at-requires : tie.Need-refused-at-requires
-refused-at-requires c κs = rw c.before.moved2.given.1 at c.before.before.before.requires
+refused_at-requires : tie.Need-refused_at-requires
+refused_at-requires c κs = rw c.in-BadRecord.is at c.requires
 
-refused-at-requires-2 : tie.Need-refused-at-requires-2
-refused-at-requires-2 c κs = rw c.before.moved3.given.1 at c.before.before.before.requires
+refused_at-requires-2 : tie.Need-refused_at-requires-in-FieldOrMark
+refused_at-requires-2 c κs = rw c.in-FieldOrMark.is at c.requires
 
-returns : tie.Need-returns
-returns c = rw c.before.before.moved.given.1 c.gives.ensures
+returns : tie.Need-returns-in-Records
+returns c = rw c.in-Records.is c.gives.ensures
 
-returns-2 : tie.Need-returns-2
-returns-2 c = rw c.before.enum_told.given.1 c.refused.ensures
+returns-2 : tie.Need-returns-in-BadLength
+returns-2 c = rw c.in-BadLength.is c.refused.ensures
 
-returns-3 : tie.Need-returns-3
-returns-3 c = rw c.before.enum-told2.given.1 c.refused2.ensures
+returns-3 : tie.Need-returns-in-BadVersion
+returns-3 c = rw c.in-BadVersion.is c.refused-in-BadVersion.ensures
 
-returns-4 : tie.Need-returns-4
-returns-4 c = rw c.before.before.moved2.given.1 c.refused-at.ensures
+returns-4 : tie.Need-returns-in-BadRecord
+returns-4 c = rw c.in-BadRecord.is c.refused_at.ensures
 
-returns-5 : tie.Need-returns-5
-returns-5 c = rw c.before.before.moved3.given.1 c.refused-at2.ensures
+returns-5 : tie.Need-returns-in-FieldOrMark
+returns-5 c = rw c.in-FieldOrMark.is c.refused_at-in-FieldOrMark.ensures
 
-returns-6 : tie.Need-returns-6
-returns-6 c = rw c.before.enum-told3.given.1 c.refused3.ensures
+returns-6 : tie.Need-returns-in-NoRoom
+returns-6 c = rw c.in-NoRoom.is c.refused-in-NoRoom.ensures
 
-pub move-crossed-spec : {M : Type 1} → statement M
-move-crossed-spec =
+pub move_crossed_spec : {M : Type 1} → statement M
+move_crossed_spec =
     tie.close
     (tie.spec
     (λ c. search rules)
@@ -43,9 +43,9 @@ move-crossed-spec =
     (λ c. search rules)
     (λ c κs. search rules)
     (λ c. search rules)
-    refused-at-requires
+    refused_at-requires
     (λ c. search rules)
-    refused-at-requires-2
+    refused_at-requires-2
     (λ c. search rules)
     (λ c κs. search rules)
     returns

@@ -7,12 +7,12 @@ use borrow.Author.Rules.{rules}
 use Rattle.pennyquill.proofs.versions.pq_any_book_check.Statement.{statement}
 use Rattle.pennyquill.proofs.versions.pq_any_book_check.Tie as tie
 
-count-crossed-requires : tie.Need-count-crossed-requires
-count-crossed-requires c κs =
-    let s = c.before.before.args.book.now in rw c.check.ensures (check-small (both s) (either s) s)
+count_crossed-requires : tie.Need-count_crossed-requires
+count_crossed-requires c κs =
+    let s = c.args.book.now in rw c.check.ensures (check-small (both s) (either s) s)
 
 returns : tie.Need-returns
-returns c = c.count-crossed.ensures ∙ ap crossed c.before.check.ensures
+returns c = c.count_crossed.ensures ∙ ap crossed c.check.ensures
 
-pub pq-any-book-check-spec : {M : Type 1} → statement M
-pq-any-book-check-spec = tie.close (tie.spec (λ c κs. search rules) count-crossed-requires returns)
+pub pq_any_book_check_spec : {M : Type 1} → statement M
+pq_any_book_check_spec = tie.close (tie.spec (λ c κs. search rules) count_crossed-requires returns)

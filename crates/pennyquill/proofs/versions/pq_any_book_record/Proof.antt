@@ -7,12 +7,12 @@ use borrow.Author.Rules.{rules}
 use Rattle.pennyquill.proofs.versions.pq_any_book_record.Statement.{statement}
 use Rattle.pennyquill.proofs.versions.pq_any_book_record.Tie as tie
 
-record-crossed-requires : tie.Need-record-crossed-requires
-record-crossed-requires c κs =
-    let s = c.before.before.args.book.now in rw c.record-at.ensures (record-small (both s) (either s) s _)
+record_crossed-requires : tie.Need-record_crossed-requires
+record_crossed-requires c κs =
+    let s = c.args.book.now in rw c.record_at.ensures (record-small (both s) (either s) s _)
 
 returns : tie.Need-returns
-returns c = c.record-crossed.ensures ∙ ap record_crossed c.before.record-at.ensures
+returns c = c.record_crossed.ensures ∙ ap record_crossed c.record_at.ensures
 
-pub pq-any-book-record-spec : {M : Type 1} → statement M
-pq-any-book-record-spec = tie.close (tie.spec (λ c κs. search rules) record-crossed-requires returns)
+pub pq_any_book_record_spec : {M : Type 1} → statement M
+pq_any_book_record_spec = tie.close (tie.spec (λ c κs. search rules) record_crossed-requires returns)

@@ -6,13 +6,13 @@ use borrow.Author.Rules.{rules}
 use Rattle.pennyquill.proofs.versions.pq_any_book_records.Statement.{statement}
 use Rattle.pennyquill.proofs.versions.pq_any_book_records.Tie as tie
 
-count-crossed-requires : tie.Need-count-crossed-requires
-count-crossed-requires c κs = rw c.before.before.records.ensures.0 (walk-small _ _ _)
+count_crossed-requires : tie.Need-count_crossed-requires
+count_crossed-requires c κs = rw c.records.ensures.0 (walk-small _ _ _)
 
 returns : tie.Need-returns
 returns c =
-    (c.count-crossed.ensures ∙ ap crossed c.before.before.before.records.ensures.0, c.before.before.before.records.ensures.1)
+    (c.count_crossed.ensures ∙ ap crossed c.records.ensures.0, c.records.ensures.1)
 
-pub pq-any-book-records-spec : {M : Type 1} → statement M
-pq-any-book-records-spec =
-    tie.close (tie.spec (λ c κs. search rules) count-crossed-requires (λ c. search rules) returns)
+pub pq_any_book_records_spec : {M : Type 1} → statement M
+pq_any_book_records_spec =
+    tie.close (tie.spec (λ c κs. search rules) count_crossed-requires (λ c. search rules) returns)

@@ -11,25 +11,25 @@ use borrow.Author.Rules.{rules}
 use Rattle.pennyquill.proofs.versions.pq_book2_append.Statement.{statement}
 use Rattle.pennyquill.proofs.versions.pq_book2_append.Tie as tie
 
-returns : tie.Need-returns
+returns : tie.Need-returns-in_default
 unfolding append_answer append_buffer field_entry_for
 returns c =
-    rw (by_code c.before.before.before.kind-of-code.ensures c.before.enum_told.given.1) (c.not-of-kind.ensures, refl)
+    rw (by_code c.kind_of_code.ensures c.in_default.is) (c.not_of_kind.ensures, refl)
 
-place-crossed-requires : tie.Need-place-crossed-requires
-place-crossed-requires c κs = rw c.before.before.append.ensures.0 (append-small version2 two _ _ (two-handed _ _ _))
+place_crossed-requires : tie.Need-place_crossed-requires
+place_crossed-requires c κs = rw c.append.ensures.0 (append-small version2 two _ _ (two-handed _ _ _))
 
-returns-2 : tie.Need-returns-2
+returns-2 : tie.Need-returns-then-field-le-MOST_FIELD
 returns-2 c =
-    rw (field-entry-code _ _ _ (by_code c.before.before.before.before.before.before.before.before.before.before.kind-of-code.ensures c.before.before.before.before.before.before.before.before.kind.given.1), ← c.before.before.before.before.before.date-in.ensures) (c.place-crossed.ensures ∙ ap crossed c.before.before.before.append.ensures.0, c.before.before.before.append.ensures.1)
+    rw (field-entry-code _ _ _ (by_code c.kind_of_code.ensures c.in-Kind.is), ← c.date_in-date.ensures) (c.place_crossed.ensures ∙ ap crossed c.append.ensures.0, c.append.ensures.1)
 
-returns-3 : tie.Need-returns-3
+returns-3 : tie.Need-returns
 unfolding append_answer append_buffer field_entry_for
 returns-3 c =
-    rw (by_code c.before.before.before.before.before.kind-of-code.ensures c.before.before.before.kind.given.1, lt-leb c.before.before.before.before.before.before.before.args.field most_field c.before.if1.false) (c.not-of-kind2.ensures, refl)
+    rw (by_code c.kind_of_code.ensures c.in-Kind.is, lt-leb c.args.field most_field c.if-field-le-MOST_FIELD.false) (c.not_of_kind-2.ensures, refl)
 
-pub pq-book2-append-spec : {M : Type 1} → statement M
-pq-book2-append-spec =
+pub pq_book2_append_spec : {M : Type 1} → statement M
+pq_book2_append_spec =
     tie.close
     (tie.spec
     (λ c κs. search rules)
@@ -40,7 +40,7 @@ pq-book2-append-spec =
     (λ c κs. search rules)
     (λ c. search rules)
     (λ c κs. search rules)
-    place-crossed-requires
+    place_crossed-requires
     (λ c. search rules)
     returns-2
     (λ c κs. search rules)

@@ -7,11 +7,11 @@ use borrow.Author.Rules.{rules}
 use Rattle.pennyquill.proofs.versions.pq_book2_check.Statement.{statement}
 use Rattle.pennyquill.proofs.versions.pq_book2_check.Tie as tie
 
-count-crossed-requires : tie.Need-count-crossed-requires
-count-crossed-requires c κs = rw c.check.ensures (check-small version2 two _)
+count_crossed-requires : tie.Need-count_crossed-requires
+count_crossed-requires c κs = rw c.check.ensures (check-small version2 two _)
 
 returns : tie.Need-returns
-returns c = c.count-crossed.ensures ∙ ap crossed c.before.check.ensures
+returns c = c.count_crossed.ensures ∙ ap crossed c.check.ensures
 
-pub pq-book2-check-spec : {M : Type 1} → statement M
-pq-book2-check-spec = tie.close (tie.spec (λ c κs. search rules) count-crossed-requires returns)
+pub pq_book2_check_spec : {M : Type 1} → statement M
+pq_book2_check_spec = tie.close (tie.spec (λ c κs. search rules) count_crossed-requires returns)

@@ -7,7 +7,7 @@ use Rattle.pennyquill.proofs.versions.pq_book2_new.Tie as tie
 
 returns : tie.Need-returns
 returns c =
-    (c.start-crossed.ensures ∙ ap crossed c.before.before.before.new.ensures.0, c.before.before.before.new.ensures.1)
+    (c.start_crossed.ensures ∙ ap crossed c.new.ensures.0, c.new.ensures.1)
 
-pub pq-book2-new-spec : {M : Type 1} → statement M
-pq-book2-new-spec = tie.close (tie.spec (λ c κs. search rules) (λ c κs. search rules) (λ c. search rules) returns)
+pub pq_book2_new_spec : {M : Type 1} → statement M
+pq_book2_new_spec = tie.close (tie.spec (λ c κs. search rules) (λ c κs. search rules) (λ c. search rules) returns)

@@ -7,11 +7,11 @@ use borrow.Author.Rules.{rules}
 use Rattle.pennyquill.proofs.versions.pq_book2_record.Statement.{statement}
 use Rattle.pennyquill.proofs.versions.pq_book2_record.Tie as tie
 
-record-crossed-requires : tie.Need-record-crossed-requires
-record-crossed-requires c κs = rw c.record-at.ensures (record-small version2 two _ _)
+record_crossed-requires : tie.Need-record_crossed-requires
+record_crossed-requires c κs = rw c.record_at.ensures (record-small version2 two _ _)
 
 returns : tie.Need-returns
-returns c = c.record-crossed.ensures ∙ ap record_crossed c.before.record-at.ensures
+returns c = c.record_crossed.ensures ∙ ap record_crossed c.record_at.ensures
 
-pub pq-book2-record-spec : {M : Type 1} → statement M
-pq-book2-record-spec = tie.close (tie.spec (λ c κs. search rules) record-crossed-requires returns)
+pub pq_book2_record_spec : {M : Type 1} → statement M
+pq_book2_record_spec = tie.close (tie.spec (λ c κs. search rules) record_crossed-requires returns)

@@ -8,12 +8,12 @@ use borrow.Author.Rules.{rules}
 use Rattle.pennyquill.proofs.versions.pq_book_to_2.Statement.{statement}
 use Rattle.pennyquill.proofs.versions.pq_book_to_2.Tie as tie
 
-move-crossed-requires : tie.Need-move-crossed-requires
-move-crossed-requires c κs = rw c.before.before.to-2.ensures.0 (move-small version1 one _ upward _)
+move_crossed-requires : tie.Need-move_crossed-requires
+move_crossed-requires c κs = rw c.to_2.ensures.0 (move-small version1 one _ upward _)
 
 returns : tie.Need-returns
 returns c =
-    (c.move-crossed.ensures ∙ ap crossed c.before.before.before.to-2.ensures.0, c.before.before.before.to-2.ensures.1)
+    (c.move_crossed.ensures ∙ ap crossed c.to_2.ensures.0, c.to_2.ensures.1)
 
-pub pq-book-to-2-spec : {M : Type 1} → statement M
-pq-book-to-2-spec = tie.close (tie.spec (λ c κs. search rules) move-crossed-requires (λ c. search rules) returns)
+pub pq_book_to_2_spec : {M : Type 1} → statement M
+pq_book_to_2_spec = tie.close (tie.spec (λ c κs. search rules) move_crossed-requires (λ c. search rules) returns)

@@ -55,12 +55,7 @@ fn report<W: Write>(out: &mut W, row: &[u8], book: &[u8], room: usize) -> io::Re
     }
 }
 
-fn report_into<W: Write>(
-    out: &mut W,
-    row: &[u8],
-    book: &[u8],
-    lent: &mut [u8],
-) -> io::Result<()> {
+fn report_into<W: Write>(out: &mut W, row: &[u8], book: &[u8], lent: &mut [u8]) -> io::Result<()> {
     let told = reported(gap_report::report(book, lent));
     telling::before_lent(out, row, told)?;
     text(out, lent)?;

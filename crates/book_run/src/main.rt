@@ -45,12 +45,7 @@ fn room(alloc: Global) -> Result<Vec<u8>, AllocError>
 
 // Runs a script in the room that it is lent. Its buffer is the front of that room, at first empty; the target of a move is the front of
 // the spare one.
-fn run<W: Write>(
-    out: &mut W,
-    script: &[u8],
-    room: &mut [u8],
-    spare: &mut [u8],
-) -> io::Result<()> {
+fn run<W: Write>(out: &mut W, script: &[u8], room: &mut [u8], spare: &mut [u8]) -> io::Result<()> {
     let mut size = 0;
     let mut at = 0;
     while at < script.len() {

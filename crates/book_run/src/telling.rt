@@ -53,12 +53,7 @@ pub(crate) fn unread_unless<W: Write>(out: &mut W, row: &[u8], done: bool) -> io
 }
 
 // `LINE = ANSWER [BUFFER]`.
-pub(crate) fn tell<W: Write>(
-    out: &mut W,
-    row: &[u8],
-    told: Told,
-    buffer: &[u8],
-) -> io::Result<()> {
+pub(crate) fn tell<W: Write>(out: &mut W, row: &[u8], told: Told, buffer: &[u8]) -> io::Result<()> {
     line(out, row)?;
     print(out, b" = ")?;
     answer(out, told, false)?;

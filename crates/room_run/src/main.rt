@@ -35,12 +35,7 @@ fn room(alloc: Global) -> Result<Vec<u8>, AllocError>
 }
 
 // Runs a script. The input is the front of the room for it, at first without bytes.
-fn run<W: Write>(
-    out: &mut W,
-    script: &[u8],
-    input: &mut [u8],
-    lent: &mut [u8],
-) -> io::Result<()> {
+fn run<W: Write>(out: &mut W, script: &[u8], input: &mut [u8], lent: &mut [u8]) -> io::Result<()> {
     let mut size = 0;
     let mut at = 0;
     while at < script.len() {

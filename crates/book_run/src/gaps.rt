@@ -8,6 +8,8 @@ use crate::gap_lines::GapLine;
 use crate::operations::Told;
 use crate::telling;
 use gap_report::Reported;
+use std::io;
+use std::io::Write;
 
 // The most bytes that a line lends for a report.
 const MOST_BYTES: usize = 400;
@@ -15,10 +17,15 @@ const MOST_BYTES: usize = 400;
 // The most numbers that a line lends for its figures.
 const MOST_NUMBERS: usize = 64;
 
-pub(crate) fn tell(row: &[u8], book: &[u8], asked: GapLine) {
+pub(crate) fn tell<W: Write>(
+    out: &mut W,
+    row: &[u8],
+    book: &[u8],
+    asked: GapLine,
+) -> io::Result<()> {
     match asked {
-        GapLine::Report(room) => report(row, book, room),
-        GapLine::Figures(numbers) => figures(row, book, numbers),
+        GapLine::Report(room) => report(out, row, book, room),
+        GapLine::Figures(numbers) => figures(out, row, book, numbers),
     }
 }
 
@@ -39,29 +46,27 @@ fn reported(answer: Reported) -> Told
 
 // ---- the report, into bytes that are each `~` before
 
-fn report(row: &[u8], book: &[u8], room: usize) {
+fn report<W: Write>(out: &mut W, row: &[u8], book: &[u8], room: usize) -> io::Result<()> {
     let mut lent = [b'~'; MOST_BYTES];
     if room <= MOST_BYTES {
-        report_into(row, book, &mut lent[..room]);
+        report_into(out, row, book, &mut lent[..room])
     } else {
-        telling::unread(row);
+        telling::unread(out, row)
     }
 }
 
-fn report_into(row: &[u8], book: &[u8], lent: &mut [u8]) {
+fn report_into<W: Write>(out: &mut W, row: &[u8], book: &[u8], lent: &mut [u8]) -> io::Result<()> {
     let told = reported(gap_report::report(book, lent));
-    telling::before_lent(row, told);
-    text(lent);
-    telling::after_lent(book);
+    telling::before_lent(out, row, told)?;
+    text(out, lent)?;
+    telling::after_lent(out, book)
 }
 
-fn text(lent: &[u8]) {
-    let mut i = 0;
-    while i < lent.len() {
-        let byte = [in_line(lent[i])];
-        telling::print(&byte);
-        i += 1;
+fn text<W: Write>(out: &mut W, lent: &[u8]) -> io::Result<()> {
+    for byte in lent {
+        telling::print(out, &[in_line(*byte)])?;
     }
+    Ok(())
 }
 
 // A byte of a text that is told in one line.
@@ -74,29 +79,33 @@ fn in_line(byte: u8) -> u8 {
 
 // ---- its figures, into numbers that are each 7 before
 
-fn figures(row: &[u8], book: &[u8], numbers: usize) {
+fn figures<W: Write>(out: &mut W, row: &[u8], book: &[u8], numbers: usize) -> io::Result<()> {
     let mut lent = [7i64; MOST_NUMBERS];
     if numbers <= MOST_NUMBERS {
-        figures_into(row, book, &mut lent[..numbers]);
+        figures_into(out, row, book, &mut lent[..numbers])
     } else {
-        telling::unread(row);
+        telling::unread(out, row)
     }
 }
 
-fn figures_into(row: &[u8], book: &[u8], lent: &mut [i64]) {
+fn figures_into<W: Write>(
+    out: &mut W,
+    row: &[u8],
+    book: &[u8],
+    lent: &mut [i64],
+) -> io::Result<()> {
     let told = reported(gap_report::figures(book, lent));
-    telling::before_lent(row, told);
-    listed(lent);
-    telling::after_lent(book);
+    telling::before_lent(out, row, told)?;
+    listed(out, lent)?;
+    telling::after_lent(out, book)
 }
 
-fn listed(numbers: &[i64]) {
-    let mut i = 0;
-    while i < numbers.len() {
+fn listed<W: Write>(out: &mut W, numbers: &[i64]) -> io::Result<()> {
+    for (i, n) in numbers.iter().enumerate() {
         if 0 < i {
-            telling::print(b" ");
+            telling::print(out, b" ")?;
         }
-        telling::signed(sign::halves64(numbers[i]));
-        i += 1;
+        telling::signed(out, sign::halves64(*n))?;
     }
+    Ok(())
 }

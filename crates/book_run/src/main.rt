@@ -3,12 +3,14 @@
 // `compare/README.md` has the format of the script and of what is told.
 #![tactic(auto)]
 
-ghost use Rattle.std.specs.Prelude.{◌≤◌, length};
+ghost use Rattle.std.specs.Prelude.{◌≡◌, ◌≤◌, length, IfOk, vec_len};
 
 use crate::lines::Line;
 use book_versions::any;
-use libc::STDIN_FILENO;
 use script::preparing;
+use std::alloc::{AllocError, Global};
+use std::io;
+use std::io::{BufWriter, Read, Write};
 
 mod gap_lines;
 mod gaps;
@@ -21,58 +23,72 @@ mod telling;
 mod version_lines;
 mod versions;
 
-fn main() {
-    let mut script = room();
-    let mut buffers = room();
-    let mut targets = room();
-    let n = io::read_full(STDIN_FILENO, &mut script);
-    run(&script[..n], &mut buffers, &mut targets);
+// The most bytes of a script. What stands behind them is not read.
+const MOST_READ: u64 = 262144;
+
+fn main(rt: HostRuntime) -> io::Result<()> {
+    let mut script = Vec::new(rt.alloc());
+    rt.reader().take(MOST_READ).read_to_end(&mut script)?;
+    let mut buffers = room(rt.alloc())?;
+    let mut targets = room(rt.alloc())?;
+    let mut out = BufWriter::new(rt.alloc(), io::writer(&rt))?;
+    run(&mut out, &script, &mut buffers, &mut targets)?;
+    out.flush()
 }
 
-// Room for the script, for its buffers, and for the targets of its moves. Its contract says nothing: an `ensures` on an array of this length runs the checker out of stack.
-fn room() -> [u8; 262144] {
-    [0u8; 262144]
+// Room for a script's buffers, and for the targets of its moves.
+fn room(alloc: Global) -> Result<Vec<u8>, AllocError>
+    ensures { IfOk result (λ v. vec_len v ≡ 262144) }
+{
+    vec![in alloc; 0; 262144]
 }
 
 // Runs a script in the room that it is lent. Its buffer is the front of that room, at first empty; the target of a move is the front of
 // the spare one.
-fn run(script: &[u8], room: &mut [u8], spare: &mut [u8]) {
+fn run<W: Write>(out: &mut W, script: &[u8], room: &mut [u8], spare: &mut [u8]) -> io::Result<()> {
     let mut size = 0;
     let mut at = 0;
     while at < script.len() {
         let end = rows::next_line(script, at);
-        size = step(&script[at..end], room, spare, size);
+        size = step(out, &script[at..end], room, spare, size)?;
         at = end;
     }
+    Ok(())
 }
 
 // Does one line, and gives the size of the buffer after it. A line that cannot be done is told as such, which no expected output has.
-fn step(row: &[u8], room: &mut [u8], spare: &mut [u8], size: usize) -> usize
+fn step<W: Write>(
+    out: &mut W,
+    row: &[u8],
+    room: &mut [u8],
+    spare: &mut [u8],
+    size: usize,
+) -> io::Result<usize>
     requires { size ≤ length room.old }
-    ensures { result ≤ length room.old }
+    ensures { IfOk result (λ n. n ≤ length room.old) }
 {
     match lines::read(row) {
         Line::Remark => {
-            telling::remark(row);
-            size
+            telling::remark(out, row)?;
+            Ok(size)
         }
         Line::Buffer { length, byte } => {
             if length <= room.len() {
                 preparing::fill(&mut room[..length], byte);
-                return length;
+                return Ok(length);
             }
-            telling::unread(row);
-            size
+            telling::unread(out, row)?;
+            Ok(size)
         }
         Line::Set { place, byte } => {
             let done = preparing::set_byte(&mut room[..size], place, byte);
-            telling::unread_unless(row, done);
-            size
+            telling::unread_unless(out, row, done)?;
+            Ok(size)
         }
         Line::Copy { from, count, to } => {
             let done = setting::copy(&mut room[..size], from, count, to);
-            telling::unread_unless(row, done);
-            size
+            telling::unread_unless(out, row, done)?;
+            Ok(size)
         }
         Line::Entries {
             place,
@@ -81,26 +97,26 @@ fn step(row: &[u8], room: &mut [u8], spare: &mut [u8], size: usize) -> usize
             code,
         } => {
             let done = preparing::entries(&mut room[..size], place, first, count, code);
-            telling::unread_unless(row, done);
-            size
+            telling::unread_unless(out, row, done)?;
+            Ok(size)
         }
         Line::Operation(operation) => {
             let told = operations::operate(&mut room[..size], operation);
-            telling::tell(row, told, &room[..size]);
-            size
+            telling::tell(out, row, told, &room[..size])?;
+            Ok(size)
         }
         Line::Version(operation) => {
             let told = versions::operate(&mut room[..size], operation);
-            telling::tell_version(row, told, &room[..size]);
-            size
+            telling::tell_version(out, row, told, &room[..size])?;
+            Ok(size)
         }
         Line::Walk { place, numbers } => {
-            walk(row, &room[..size], place, numbers);
-            size
+            walk(out, row, &room[..size], place, numbers)?;
+            Ok(size)
         }
         Line::Gaps(asked) => {
-            gaps::tell(row, &room[..size], asked);
-            size
+            gaps::tell(out, row, &room[..size], asked)?;
+            Ok(size)
         }
         Line::Move {
             upward,
@@ -109,59 +125,72 @@ fn step(row: &[u8], room: &mut [u8], spare: &mut [u8], size: usize) -> usize
         } => {
             if length <= spare.len() {
                 if length <= room.len() {
-                    return moved(row, room, size, &mut spare[..length], upward, byte);
+                    return moved(out, row, room, size, &mut spare[..length], upward, byte);
                 }
             }
-            telling::unread(row);
-            size
+            telling::unread(out, row)?;
+            Ok(size)
         }
         Line::Table(operation) => {
             let told = tables::operate(&mut room[..size], operation);
-            telling::tell_table(row, told, &room[..size]);
-            size
+            telling::tell_table(out, row, told, &room[..size])?;
+            Ok(size)
         }
         Line::Unread => {
-            telling::unread(row);
-            size
+            telling::unread(out, row)?;
+            Ok(size)
         }
     }
 }
 
 // The walk over a book, into so many numbers, each 7 before.
-fn walk(row: &[u8], book: &[u8], place: usize, numbers: usize) {
+fn walk<W: Write>(
+    out: &mut W,
+    row: &[u8],
+    book: &[u8],
+    place: usize,
+    numbers: usize,
+) -> io::Result<()> {
     let mut lent = [7u32; 64];
     if numbers <= 64 {
-        walk_into(row, book, place, &mut lent[..numbers]);
+        walk_into(out, row, book, place, &mut lent[..numbers])
     } else {
-        telling::unread(row);
+        telling::unread(out, row)
     }
 }
 
-fn walk_into(row: &[u8], book: &[u8], place: usize, lent: &mut [u32]) {
+fn walk_into<W: Write>(
+    out: &mut W,
+    row: &[u8],
+    book: &[u8],
+    place: usize,
+    lent: &mut [u32],
+) -> io::Result<()> {
     let told = operations::checked(any::records(book, place, lent));
-    telling::tell_walk(row, told, lent, book);
+    telling::tell_walk(out, row, told, lent, book)
 }
 
 // Moves the book in the buffer into a target. Where that is done, the target is the buffer from then on. Gives the size of the buffer.
-fn moved(
+fn moved<W: Write>(
+    out: &mut W,
     row: &[u8],
     room: &mut [u8],
     size: usize,
     target: &mut [u8],
     upward: bool,
     byte: u8,
-) -> usize
+) -> io::Result<usize>
     requires { (size ≤ length room.old) × (length target.old ≤ length room.old) }
-    ensures { result ≤ length room.old }
+    ensures { IfOk result (λ n. n ≤ length room.old) }
 {
     preparing::fill(target, byte);
     let told = versions::move_book(&room[..size], target, upward);
     let done = operations::is_number(told);
-    telling::tell(row, told, target);
+    telling::tell(out, row, told, target)?;
     if done {
         let length = target.len();
         preparing::put(&mut room[..length], target);
-        return length;
+        return Ok(length);
     }
-    size
+    Ok(size)
 }

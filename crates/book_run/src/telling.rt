@@ -3,19 +3,20 @@ ghost use Rattle.std.specs.Prelude.{◌≤◌};
 
 use crate::operations::Told;
 use kinds::{Kind, Packed};
-use libc::STDOUT_FILENO;
 use script::{table_answers, weighing};
 use sign::Halves;
+use std::io;
+use std::io::Write;
 
 // The longest buffer that is shown byte for byte.
 const LONGEST_SHOWN: usize = 40;
 
-pub(crate) fn print(text: &[u8]) {
-    io::write_all(STDOUT_FILENO, text);
+pub(crate) fn print<W: Write>(out: &mut W, text: &[u8]) -> io::Result<()> {
+    out.write_all(text)
 }
 
-fn number(n: u64) {
-    io::print_decimal(STDOUT_FILENO, n);
+fn number<W: Write>(out: &mut W, n: u64) -> io::Result<()> {
+    write!(out, "{n}")
 }
 
 fn wide(byte: u8) -> u64
@@ -29,133 +30,148 @@ fn counted(n: usize) -> u64 {
 }
 
 // A row without its line end.
-fn line(row: &[u8]) {
+fn line<W: Write>(out: &mut W, row: &[u8]) -> io::Result<()> {
     let n = spans::find(row, 0, row.len(), b'\n');
-    print(&row[..n]);
+    print(out, &row[..n])
 }
 
-pub(crate) fn remark(row: &[u8]) {
-    line(row);
-    print(b"\n");
+pub(crate) fn remark<W: Write>(out: &mut W, row: &[u8]) -> io::Result<()> {
+    line(out, row)?;
+    print(out, b"\n")
 }
 
-pub(crate) fn unread(row: &[u8]) {
-    line(row);
-    print(b" = unread\n");
+pub(crate) fn unread<W: Write>(out: &mut W, row: &[u8]) -> io::Result<()> {
+    line(out, row)?;
+    print(out, b" = unread\n")
 }
 
-pub(crate) fn unread_unless(row: &[u8], done: bool) {
+pub(crate) fn unread_unless<W: Write>(out: &mut W, row: &[u8], done: bool) -> io::Result<()> {
     if !done {
-        unread(row);
+        return unread(out, row);
     }
+    Ok(())
 }
 
 // `LINE = ANSWER [BUFFER]`.
-pub(crate) fn tell(row: &[u8], told: Told, buffer: &[u8]) {
-    line(row);
-    print(b" = ");
-    answer(told, false);
-    after_answer(buffer);
+pub(crate) fn tell<W: Write>(out: &mut W, row: &[u8], told: Told, buffer: &[u8]) -> io::Result<()> {
+    line(out, row)?;
+    print(out, b" = ")?;
+    answer(out, told, false)?;
+    after_answer(out, buffer)
 }
 
 // The same, with the field number of a record.
-pub(crate) fn tell_version(row: &[u8], told: Told, buffer: &[u8]) {
-    line(row);
-    print(b" = ");
-    answer(told, true);
-    after_answer(buffer);
+pub(crate) fn tell_version<W: Write>(
+    out: &mut W,
+    row: &[u8],
+    told: Told,
+    buffer: &[u8],
+) -> io::Result<()> {
+    line(out, row)?;
+    print(out, b" = ")?;
+    answer(out, told, true)?;
+    after_answer(out, buffer)
 }
 
 // The same, with all numbers that a walk was lent.
-pub(crate) fn tell_walk(row: &[u8], told: Told, numbers: &[u32], buffer: &[u8]) {
-    before_lent(row, told);
-    listed(numbers);
-    after_lent(buffer);
+pub(crate) fn tell_walk<W: Write>(
+    out: &mut W,
+    row: &[u8],
+    told: Told,
+    numbers: &[u32],
+    buffer: &[u8],
+) -> io::Result<()> {
+    before_lent(out, row, told)?;
+    listed(out, numbers)?;
+    after_lent(out, buffer)
 }
 
 // `LINE = ANSWER {`, before all that an operation was lent, and `} [BUFFER]` after it.
-pub(crate) fn before_lent(row: &[u8], told: Told) {
-    line(row);
-    print(b" = ");
-    answer(told, true);
-    print(b" {");
+pub(crate) fn before_lent<W: Write>(out: &mut W, row: &[u8], told: Told) -> io::Result<()> {
+    line(out, row)?;
+    print(out, b" = ")?;
+    answer(out, told, true)?;
+    print(out, b" {")
 }
 
-pub(crate) fn after_lent(buffer: &[u8]) {
-    print(b"}");
-    after_answer(buffer);
+pub(crate) fn after_lent<W: Write>(out: &mut W, buffer: &[u8]) -> io::Result<()> {
+    print(out, b"}")?;
+    after_answer(out, buffer)
 }
 
-fn listed(numbers: &[u32]) {
-    let mut i = 0;
-    while i < numbers.len() {
+fn listed<W: Write>(out: &mut W, numbers: &[u32]) -> io::Result<()> {
+    for (i, n) in numbers.iter().enumerate() {
         if 0 < i {
-            print(b" ");
+            print(out, b" ")?;
         }
-        number(field_of(numbers[i]));
-        i += 1;
+        number(out, field_of(*n))?;
     }
+    Ok(())
 }
 
-pub(crate) fn tell_table(row: &[u8], told: table_answers::Told, buffer: &[u8]) {
-    line(row);
-    print(b" = ");
-    table_answer(told);
-    after_answer(buffer);
+pub(crate) fn tell_table<W: Write>(
+    out: &mut W,
+    row: &[u8],
+    told: table_answers::Told,
+    buffer: &[u8],
+) -> io::Result<()> {
+    line(out, row)?;
+    print(out, b" = ")?;
+    table_answer(out, told)?;
+    after_answer(out, buffer)
 }
 
-fn after_answer(buffer: &[u8]) {
-    print(b" [");
-    show(buffer);
-    print(b"]\n");
+fn after_answer<W: Write>(out: &mut W, buffer: &[u8]) -> io::Result<()> {
+    print(out, b" [")?;
+    show(out, buffer)?;
+    print(out, b"]\n")
 }
 
-fn answer(told: Told, with_field: bool) {
+fn answer<W: Write>(out: &mut W, told: Told, with_field: bool) -> io::Result<()> {
     match told {
-        Told::Done => print(b"done"),
-        Told::Number(n) => number(counted(n)),
+        Told::Done => print(out, b"done"),
+        Told::Number(n) => number(out, counted(n)),
         Told::Record { kind, field, date } => {
             if with_field {
-                return field_record(kind, field, date);
+                return field_record(out, kind, field, date);
             }
-            record(kind, date)
+            record(out, kind, date)
         }
-        Told::Refused(n) => refused(n),
+        Told::Refused(n) => refused(out, n),
         Told::RefusedAt { refusal, place } => {
-            refused(refusal);
-            print(b" ");
-            number(counted(place))
+            refused(out, refusal)?;
+            print(out, b" ")?;
+            number(out, counted(place))
         }
     }
 }
 
-fn table_answer(told: table_answers::Told) {
+fn table_answer<W: Write>(out: &mut W, told: table_answers::Told) -> io::Result<()> {
     match told {
-        table_answers::Told::Done => print(b"done"),
-        table_answers::Told::Number(n) => number(counted(n)),
-        table_answers::Told::Entry { field, kind } => entry(field, kind),
+        table_answers::Told::Done => print(out, b"done"),
+        table_answers::Told::Number(n) => number(out, counted(n)),
+        table_answers::Told::Entry { field, kind } => entry(out, field, kind),
         table_answers::Told::Declared { kind, date } => {
-            print(b"declared ");
-            record(kind, date)
+            print(out, b"declared ")?;
+            record(out, kind, date)
         }
         table_answers::Told::Guessed { kind, date } => {
-            print(b"guessed ");
-            record(kind, date)
+            print(out, b"guessed ")?;
+            record(out, kind, date)
         }
-        table_answers::Told::Refused(n) => refused(n),
+        table_answers::Told::Refused(n) => refused(out, n),
     }
 }
 
-fn refused(n: u8) {
-    print(b"refused ");
-    number(wide(n));
+fn refused<W: Write>(out: &mut W, n: u8) -> io::Result<()> {
+    print(out, b"refused ")?;
+    number(out, wide(n))
 }
 
 // `FIELD K`.
-fn entry(field: u32, kind: Kind) {
-    number(field_of(field));
-    let letter = [b' ', codes::letter(kind)];
-    print(&letter);
+fn entry<W: Write>(out: &mut W, field: u32, kind: Kind) -> io::Result<()> {
+    number(out, field_of(field))?;
+    print(out, &[b' ', codes::letter(kind)])
 }
 
 fn field_of(field: u32) -> u64 {
@@ -163,34 +179,32 @@ fn field_of(field: u32) -> u64 {
 }
 
 // `K YEAR WORD`.
-fn record(kind: Kind, date: Packed) {
-    let letter = [codes::letter(kind), b' '];
-    print(&letter);
-    year_and_word(date);
+fn record<W: Write>(out: &mut W, kind: Kind, date: Packed) -> io::Result<()> {
+    print(out, &[codes::letter(kind), b' '])?;
+    year_and_word(out, date)
 }
 
 // `K FIELD YEAR WORD`.
-fn field_record(kind: Kind, field: u16, date: Packed) {
-    let letter = [codes::letter(kind), b' '];
-    print(&letter);
-    number(word_of(field));
-    print(b" ");
-    year_and_word(date);
+fn field_record<W: Write>(out: &mut W, kind: Kind, field: u16, date: Packed) -> io::Result<()> {
+    print(out, &[codes::letter(kind), b' '])?;
+    number(out, word_of(field))?;
+    print(out, b" ")?;
+    year_and_word(out, date)
 }
 
-fn year_and_word(date: Packed) {
-    signed(sign::halves16(date.year));
-    print(b" ");
-    number(word_of(date.word));
+fn year_and_word<W: Write>(out: &mut W, date: Packed) -> io::Result<()> {
+    signed(out, sign::halves16(date.year))?;
+    print(out, b" ")?;
+    number(out, word_of(date.word))
 }
 
 // A number by its halves.
-pub(crate) fn signed(n: Halves) {
+pub(crate) fn signed<W: Write>(out: &mut W, n: Halves) -> io::Result<()> {
     if 0 < n.dn {
-        print(b"-");
-        number(n.dn);
+        print(out, b"-")?;
+        number(out, n.dn)
     } else {
-        number(n.up);
+        number(out, n.up)
     }
 }
 
@@ -198,20 +212,20 @@ fn word_of(word: u16) -> u64 {
     word as u64
 }
 
-fn show(buffer: &[u8]) {
+fn show<W: Write>(out: &mut W, buffer: &[u8]) -> io::Result<()> {
     if buffer.len() <= LONGEST_SHOWN {
-        hexadecimal(buffer);
+        hexadecimal(out, buffer)
     } else {
-        number(counted(buffer.len()));
-        print(b" bytes, sum ");
-        number(weighing::weighed(buffer));
+        number(out, counted(buffer.len()))?;
+        print(out, b" bytes, sum ")?;
+        number(out, weighing::weighed(buffer))
     }
 }
 
-fn hexadecimal(buffer: &[u8]) {
-    let mut i = 0;
-    while i < buffer.len() {
-        io::print_hex(STDOUT_FILENO, wide(buffer[i]), 2);
-        i += 1;
+fn hexadecimal<W: Write>(out: &mut W, buffer: &[u8]) -> io::Result<()> {
+    for byte in buffer {
+        let byte = *byte;
+        write!(out, "{byte:02x}")?;
     }
+    Ok(())
 }

@@ -1,18 +1,26 @@
 // `datelist` over the longest input that it lists: 65,535 bytes.
 #![tactic(auto)]
 
-use libc::{STDIN_FILENO, STDOUT_FILENO};
+ghost use Rattle.std.specs.Prelude.{◌≡◌, IfOk, vec_len};
 
-// Room for the longest listing. Its contract says nothing: an `ensures` on an array of this length runs the checker out of stack.
-fn room() -> [u8; 786420] {
-    [0u8; 786420]
+use std::alloc::{AllocError, Global};
+use std::io;
+use std::io::{Read, Write};
+
+// One byte more than an input may have, so that a longer one is seen. What stands behind it is not read.
+const MOST_READ: u64 = 65536;
+
+// Room for the longest listing.
+fn room(alloc: Global) -> Result<Vec<u8>, AllocError>
+    ensures { IfOk result (λ v. vec_len v ≡ 786420) }
+{
+    vec![in alloc; 0; 786420]
 }
 
-fn main() {
-    // one byte more than an input may have, so that a longer one is seen
-    let mut input = io::large_buffer();
-    let mut out = room();
-    let n = io::read_full(STDIN_FILENO, &mut input);
-    let m = listing::print(&input[..n], &mut out);
-    io::write_all(STDOUT_FILENO, &out[..m]);
+fn main(rt: HostRuntime) -> io::Result<()> {
+    let mut input = Vec::new(rt.alloc());
+    rt.reader().take(MOST_READ).read_to_end(&mut input)?;
+    let mut out = room(rt.alloc())?;
+    let n = listing::print(&input, &mut out);
+    io::writer(&rt).write_all(&out[..n])
 }

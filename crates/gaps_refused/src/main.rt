@@ -1,17 +1,16 @@
 // Reports the gaps of the book that stands on standard input: reads as many bytes as the longest book has, has them reported, writes that.
 #![tactic(auto)]
 
-use libc::{STDIN_FILENO, STDOUT_FILENO};
+use std::io;
+use std::io::{Read, Write};
 
-// Room for the longest book. Its contract says nothing: an `ensures` on an array of this length runs the checker out of stack.
-fn room() -> [u8; 28677] {
-    [0u8; 28677]
-}
+// How many bytes the longest book has. What stands behind them is not read.
+const LONGEST_BOOK: u64 = 28677;
 
-fn main() {
-    let mut book = room();
+fn main(rt: HostRuntime) -> io::Result<()> {
+    let mut book = Vec::new(rt.alloc());
+    rt.reader().take(LONGEST_BOOK).read_to_end(&mut book)?;
     let mut out = [0u8; 714];
-    let n = io::read_full(STDIN_FILENO, &mut book);
-    let m = gap_report::print(&book[..n], &mut out);
-    io::write_all(STDOUT_FILENO, &out[..m]);
+    let n = gap_report::print(&book, &mut out);
+    io::writer(&rt).write_all(&out[..n])
 }

@@ -2,20 +2,21 @@
 ghost use Rattle.std.specs.Prelude.{◌≤◌};
 
 use kinds::{Kind, Packed};
-use libc::STDOUT_FILENO;
 use script::table_answers::Told;
 use script::weighing;
 use sign::Halves;
+use std::io;
+use std::io::Write;
 
 // The longest buffer that is shown byte for byte.
 const LONGEST_SHOWN: usize = 40;
 
-fn print(text: &[u8]) {
-    io::write_all(STDOUT_FILENO, text);
+fn print<W: Write>(out: &mut W, text: &[u8]) -> io::Result<()> {
+    out.write_all(text)
 }
 
-fn number(n: u64) {
-    io::print_decimal(STDOUT_FILENO, n);
+fn number<W: Write>(out: &mut W, n: u64) -> io::Result<()> {
+    write!(out, "{n}")
 }
 
 fn wide(byte: u8) -> u64
@@ -37,97 +38,96 @@ fn word_of(word: u16) -> u64 {
 }
 
 // A row without its line end.
-fn line(row: &[u8]) {
+fn line<W: Write>(out: &mut W, row: &[u8]) -> io::Result<()> {
     let n = spans::find(row, 0, row.len(), b'\n');
-    print(&row[..n]);
+    print(out, &row[..n])
 }
 
-pub(crate) fn remark(row: &[u8]) {
-    line(row);
-    print(b"\n");
+pub(crate) fn remark<W: Write>(out: &mut W, row: &[u8]) -> io::Result<()> {
+    line(out, row)?;
+    print(out, b"\n")
 }
 
-pub(crate) fn unread(row: &[u8]) {
-    line(row);
-    print(b" = unread\n");
+pub(crate) fn unread<W: Write>(out: &mut W, row: &[u8]) -> io::Result<()> {
+    line(out, row)?;
+    print(out, b" = unread\n")
 }
 
-pub(crate) fn unread_unless(row: &[u8], done: bool) {
+pub(crate) fn unread_unless<W: Write>(out: &mut W, row: &[u8], done: bool) -> io::Result<()> {
     if !done {
-        unread(row);
+        return unread(out, row);
     }
+    Ok(())
 }
 
 // `LINE = ANSWER [BUFFER]`.
-pub(crate) fn tell(row: &[u8], told: Told, buffer: &[u8]) {
-    line(row);
-    print(b" = ");
-    answer(told);
-    print(b" [");
-    show(buffer);
-    print(b"]\n");
+pub(crate) fn tell<W: Write>(out: &mut W, row: &[u8], told: Told, buffer: &[u8]) -> io::Result<()> {
+    line(out, row)?;
+    print(out, b" = ")?;
+    answer(out, told)?;
+    print(out, b" [")?;
+    show(out, buffer)?;
+    print(out, b"]\n")
 }
 
-fn answer(told: Told) {
+fn answer<W: Write>(out: &mut W, told: Told) -> io::Result<()> {
     match told {
-        Told::Done => print(b"done"),
-        Told::Number(n) => number(counted(n)),
-        Told::Entry { field, kind } => entry(field, kind),
+        Told::Done => print(out, b"done"),
+        Told::Number(n) => number(out, counted(n)),
+        Told::Entry { field, kind } => entry(out, field, kind),
         Told::Declared { kind, date } => {
-            print(b"declared ");
-            dated(kind, date)
+            print(out, b"declared ")?;
+            dated(out, kind, date)
         }
         Told::Guessed { kind, date } => {
-            print(b"guessed ");
-            dated(kind, date)
+            print(out, b"guessed ")?;
+            dated(out, kind, date)
         }
         Told::Refused(n) => {
-            print(b"refused ");
-            number(wide(n))
+            print(out, b"refused ")?;
+            number(out, wide(n))
         }
     }
 }
 
 // `FIELD K`.
-fn entry(field: u32, kind: Kind) {
-    number(field_of(field));
-    let letter = [b' ', codes::letter(kind)];
-    print(&letter);
+fn entry<W: Write>(out: &mut W, field: u32, kind: Kind) -> io::Result<()> {
+    number(out, field_of(field))?;
+    print(out, &[b' ', codes::letter(kind)])
 }
 
 // `K YEAR WORD`.
-fn dated(kind: Kind, date: Packed) {
-    let letter = [codes::letter(kind), b' '];
-    print(&letter);
-    signed(sign::halves16(date.year));
-    print(b" ");
-    number(word_of(date.word));
+fn dated<W: Write>(out: &mut W, kind: Kind, date: Packed) -> io::Result<()> {
+    print(out, &[codes::letter(kind), b' '])?;
+    signed(out, sign::halves16(date.year))?;
+    print(out, b" ")?;
+    number(out, word_of(date.word))
 }
 
 // A number by its halves.
-fn signed(n: Halves) {
+fn signed<W: Write>(out: &mut W, n: Halves) -> io::Result<()> {
     if 0 < n.dn {
-        print(b"-");
-        number(n.dn);
+        print(out, b"-")?;
+        number(out, n.dn)
     } else {
-        number(n.up);
+        number(out, n.up)
     }
 }
 
-fn show(buffer: &[u8]) {
+fn show<W: Write>(out: &mut W, buffer: &[u8]) -> io::Result<()> {
     if buffer.len() <= LONGEST_SHOWN {
-        hexadecimal(buffer);
+        hexadecimal(out, buffer)
     } else {
-        number(counted(buffer.len()));
-        print(b" bytes, sum ");
-        number(weighing::weighed(buffer));
+        number(out, counted(buffer.len()))?;
+        print(out, b" bytes, sum ")?;
+        number(out, weighing::weighed(buffer))
     }
 }
 
-fn hexadecimal(buffer: &[u8]) {
-    let mut i = 0;
-    while i < buffer.len() {
-        io::print_hex(STDOUT_FILENO, wide(buffer[i]), 2);
-        i += 1;
+fn hexadecimal<W: Write>(out: &mut W, buffer: &[u8]) -> io::Result<()> {
+    for byte in buffer {
+        let byte = *byte;
+        write!(out, "{byte:02x}")?;
     }
+    Ok(())
 }

@@ -5,7 +5,8 @@
 
 use codes::Lettered;
 use kinds::Kind;
-use libc::STDIN_FILENO;
+use std::io;
+use std::io::{BufWriter, Read, Write};
 
 mod answers;
 mod dates;
@@ -17,56 +18,57 @@ mod questions;
 mod quoted;
 mod telling;
 
-fn main() {
-    let mut input = room();
-    let n = io::read_full(STDIN_FILENO, &mut input);
-    run(&input[..n]);
+// The most bytes of questions. What stands behind them is not read.
+const MOST_READ: u64 = 524288;
+
+fn main(rt: HostRuntime) -> io::Result<()> {
+    let mut input = Vec::new(rt.alloc());
+    rt.reader().take(MOST_READ).read_to_end(&mut input)?;
+    let mut out = BufWriter::new(rt.alloc(), io::writer(&rt))?;
+    run(&mut out, &input)?;
+    out.flush()
 }
 
-// Room for the questions. Its contract says nothing: an `ensures` on an array of this length runs the checker out of stack.
-fn room() -> [u8; 524288] {
-    [0u8; 524288]
-}
-
-fn run(s: &[u8]) {
+fn run<W: Write>(out: &mut W, s: &[u8]) -> io::Result<()> {
     let mut at = 0;
     while at < s.len() {
         let end = rows::next_line(s, at);
-        step(&s[at..end]);
+        step(out, &s[at..end])?;
         at = end;
     }
+    Ok(())
 }
 
 // A row that starts with the letter of a kind asks that kind; any other asks a leaf.
-fn step(row: &[u8]) {
+fn step<W: Write>(out: &mut W, row: &[u8]) -> io::Result<()> {
     match codes::kind_of_letter(rows::byte(row, 0)) {
-        Lettered::Kind(kind) => ask_kind(row, kind),
-        Lettered::None => telling::tell_leaf(row, questions::of_leaf(row)),
+        Lettered::Kind(kind) => ask_kind(out, row, kind),
+        Lettered::None => telling::tell_leaf(out, row, questions::of_leaf(row)),
     }
 }
 
-fn ask_kind(row: &[u8], kind: Kind) {
+fn ask_kind<W: Write>(out: &mut W, row: &[u8], kind: Kind) -> io::Result<()> {
     match rows::byte(row, 2) {
-        b's' => spellings(row, kind),
-        b'x' => exchange(row, kind),
-        _ => telling::tell(row, kind, questions::of_kind(row, kind)),
+        b's' => spellings(out, row, kind),
+        b'x' => exchange(out, row, kind),
+        _ => telling::tell(out, row, kind, questions::of_kind(row, kind)),
     }
 }
 
-fn spellings(row: &[u8], kind: Kind) {
+fn spellings<W: Write>(out: &mut W, row: &[u8], kind: Kind) -> io::Result<()> {
     let from = parts::date(row, rows::after_word(row, 1, b" s "));
     if rows::ends(row, from.next) {
-        telling::spellings(row, kind, from.date);
+        telling::spellings(out, row, kind, from.date)
     } else {
-        telling::unread(row);
+        telling::unread(out, row)
     }
 }
 
-fn exchange(row: &[u8], kind: Kind) {
+fn exchange<W: Write>(out: &mut W, row: &[u8], kind: Kind) -> io::Result<()> {
     let from = parts::date(row, rows::after_word(row, 1, b" x "));
     if rows::ends(row, from.next) {
-        telling::exchange(row, kind, from.date);
+        telling::exchange(out, row, kind, from.date)
     } else {
-        telling::unread(row);
+        telling::unread(out, row)
     }
 }

@@ -8,149 +8,160 @@ use crate::{dates, marks};
 use eu5_date::Eu5Date;
 use formatter::Spelled;
 use kinds::{ExpandedRawDate, Kind, Packed};
-use libc::STDOUT_FILENO;
 use sign::Halves;
+use std::io;
+use std::io::Write;
 
-fn print(text: &[u8]) {
-    io::write_all(STDOUT_FILENO, text);
+fn print<W: Write>(out: &mut W, text: &[u8]) -> io::Result<()> {
+    out.write_all(text)
 }
 
 // ---- a space, and a number
 
-fn natural(n: u64) {
-    print(b" ");
-    io::print_decimal(STDOUT_FILENO, n);
+fn natural<W: Write>(out: &mut W, n: u64) -> io::Result<()> {
+    write!(out, " {n}")
 }
 
-fn small(n: u8) {
-    natural(n as u64);
+fn small<W: Write>(out: &mut W, n: u8) -> io::Result<()> {
+    natural(out, n as u64)
 }
 
-fn signed(n: Halves) {
-    if 0 < n.dn {
-        print(b" -");
-        io::print_decimal(STDOUT_FILENO, n.dn);
+fn signed<W: Write>(out: &mut W, n: Halves) -> io::Result<()> {
+    let down = n.dn;
+    if 0 < down {
+        write!(out, " -{down}")
     } else {
-        natural(n.up);
+        natural(out, n.up)
     }
 }
 
 // ---- the question
 
 // A row without its line end.
-fn question(row: &[u8]) {
+fn question<W: Write>(out: &mut W, row: &[u8]) -> io::Result<()> {
     let n = spans::find(row, 0, row.len(), b'\n');
-    print(&row[..n]);
+    print(out, &row[..n])
 }
 
 // No expected output has such a line.
-pub(crate) fn unread(row: &[u8]) {
-    question(row);
-    print(b" = unread\n");
+pub(crate) fn unread<W: Write>(out: &mut W, row: &[u8]) -> io::Result<()> {
+    question(out, row)?;
+    print(out, b" = unread\n")
 }
 
 // ---- the answers of the kinds
 
-pub(crate) fn tell(row: &[u8], kind: Kind, told: Told) {
-    question(row);
+pub(crate) fn tell<W: Write>(out: &mut W, row: &[u8], kind: Kind, told: Told) -> io::Result<()> {
+    question(out, row)?;
     match told {
-        Told::Date(date) => dated(kind, date),
-        Told::Number(n) => signed(sign::halves32(n)),
-        Told::Refused(n) => refused(n),
-        Told::Unasked => print(b" = unread"),
+        Told::Date(date) => dated(out, kind, date)?,
+        Told::Number(n) => signed(out, sign::halves32(n))?,
+        Told::Refused(n) => refused(out, n)?,
+        Told::Unasked => print(out, b" = unread")?,
     }
-    print(b"\n");
+    print(out, b"\n")
 }
 
 // Its fields, and that it was guessed, where it was.
-fn dated(kind: Kind, date: Packed) {
-    fields(dates::shown(kind, date));
+fn dated<W: Write>(out: &mut W, kind: Kind, date: Packed) -> io::Result<()> {
+    fields(out, dates::shown(kind, date))?;
     if marks::is_guessed(kind, date) {
-        print(b" guessed");
+        return print(out, b" guessed");
     }
+    Ok(())
 }
 
-fn fields(f: ExpandedRawDate) {
-    signed(sign::halves16(f.year));
-    small(f.month);
-    small(f.day);
-    small(f.hour);
+fn fields<W: Write>(out: &mut W, f: ExpandedRawDate) -> io::Result<()> {
+    signed(out, sign::halves16(f.year))?;
+    small(out, f.month)?;
+    small(out, f.day)?;
+    small(out, f.hour)
 }
 
-fn refused(n: u8) {
-    print(b" refused");
-    small(n);
+fn refused<W: Write>(out: &mut W, n: u8) -> io::Result<()> {
+    print(out, b" refused")?;
+    small(out, n)
 }
 
 // ---- the texts of a date
 
 // The dotted text and the ISO text; of E the ISO date alone too.
-pub(crate) fn spellings(row: &[u8], kind: Kind, date: Packed) {
-    let mut out = [0u8; 16];
-    question(row);
-    let dotted = dates::game_fmt(kind, date, &mut out);
-    text(&out, dotted);
-    let iso = dates::iso_8601(kind, date, &mut out);
-    text(&out, iso);
+pub(crate) fn spellings<W: Write>(
+    out: &mut W,
+    row: &[u8],
+    kind: Kind,
+    date: Packed,
+) -> io::Result<()> {
+    let mut buffer = [0u8; 16];
+    question(out, row)?;
+    let dotted = dates::game_fmt(kind, date, &mut buffer);
+    text(out, &buffer, dotted)?;
+    let iso = dates::iso_8601(kind, date, &mut buffer);
+    text(out, &buffer, iso)?;
     match kind {
         Kind::Raw => {}
         Kind::Date => {}
         Kind::Hour => {}
         Kind::Uniform => {}
-        Kind::Eu5 => iso_date(date),
+        Kind::Eu5 => iso_date(out, date)?,
         Kind::Vic3 => {}
     }
-    print(b"\n");
+    print(out, b"\n")
 }
 
-fn iso_date(raw: Packed) {
-    let mut out = [0u8; 16];
+fn iso_date<W: Write>(out: &mut W, raw: Packed) -> io::Result<()> {
+    let mut buffer = [0u8; 16];
     let from = Eu5Date { raw };
-    let alone = from.date_fmt(&mut out);
-    text(&out, alone);
+    let alone = from.date_fmt(&mut buffer);
+    text(out, &buffer, alone)
 }
 
-pub(crate) fn exchange(row: &[u8], kind: Kind, date: Packed) {
-    let mut out = [0u8; 16];
-    question(row);
-    let exchanged = dates::exchange(kind, date, &mut out);
-    text(&out, exchanged);
-    print(b"\n");
+pub(crate) fn exchange<W: Write>(
+    out: &mut W,
+    row: &[u8],
+    kind: Kind,
+    date: Packed,
+) -> io::Result<()> {
+    let mut buffer = [0u8; 16];
+    question(out, row)?;
+    let exchanged = dates::exchange(kind, date, &mut buffer);
+    text(out, &buffer, exchanged)?;
+    print(out, b"\n")
 }
 
 // A space, and the text at the front of a buffer, or why there is none.
-fn text(out: &[u8], spelled: Spelled)
-    requires { length_of spelled ≤ length out.now }
+fn text<W: Write>(out: &mut W, buffer: &[u8], spelled: Spelled) -> io::Result<()>
+    requires { length_of spelled ≤ length buffer.now }
 {
     match spelled {
         Spelled::Length(n) => {
-            print(b" ");
-            print(&out[..n]);
+            print(out, b" ")?;
+            print(out, &buffer[..n])
         }
-        Spelled::NotOfKind => refused(refusals::NOT_OF_KIND),
-        Spelled::Short => refused(refusals::BUFFER_SHORT),
+        Spelled::NotOfKind => refused(out, refusals::NOT_OF_KIND),
+        Spelled::Short => refused(out, refusals::BUFFER_SHORT),
     }
 }
 
 // ---- the answers of the leaves
 
-pub(crate) fn tell_leaf(row: &[u8], told: LeafTold) {
-    question(row);
+pub(crate) fn tell_leaf<W: Write>(out: &mut W, row: &[u8], told: LeafTold) -> io::Result<()> {
+    question(out, row)?;
     match told {
         LeafTold::Leading { value, rest } => {
-            signed(sign::halves64(value));
-            natural(rest as u64);
+            signed(out, sign::halves64(value))?;
+            natural(out, rest as u64)?;
         }
-        LeafTold::NoLeading => print(b" refused"),
-        LeafTold::Digits(value) => natural(value),
-        LeafTold::NoDigits => print(b" none"),
+        LeafTold::NoLeading => print(out, b" refused")?,
+        LeafTold::Digits(value) => natural(out, value)?,
+        LeafTold::NoDigits => print(out, b" none")?,
         LeafTold::MonthDay { month, day } => {
-            small(month);
-            small(day);
+            small(out, month)?;
+            small(out, day)?;
         }
-        LeafTold::Number(n) => signed(sign::halves32(n)),
-        LeafTold::NoMonth => refused(refusals::NOT_OF_KIND),
-        LeafTold::Unasked => print(b" = unread"),
+        LeafTold::Number(n) => signed(out, sign::halves32(n))?,
+        LeafTold::NoMonth => refused(out, refusals::NOT_OF_KIND)?,
+        LeafTold::Unasked => print(out, b" = unread")?,
     }
-    print(b"\n");
+    print(out, b"\n")
 }

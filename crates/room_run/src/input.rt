@@ -21,7 +21,8 @@ pub(crate) fn put(free: &mut [u8], text: &[u8], ends: usize) -> Listed
     if free.len() - text.len() < ends {
         return Listed::Short;
     }
-    let from = spans::copy(text, free);
+    spans::copy(text, free);
+    let from = text.len();
     let end = from + ends;
     preparing::fill(&mut free[from..end], b'\n');
     Listed::Length(end)

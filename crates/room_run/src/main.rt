@@ -2,84 +2,106 @@
 // `compare/README.md` has the format of the script and of what is told.
 #![tactic(auto)]
 
-ghost use Rattle.std.specs.Prelude.{◌≤◌, length};
+ghost use Rattle.std.specs.Prelude.{◌≡◌, ◌≤◌, length, IfOk, vec_len};
 
 use crate::lines::Line;
-use libc::STDIN_FILENO;
 use listing::{Listed, room};
+use std::alloc::{AllocError, Global};
+use std::io;
+use std::io::{BufWriter, Read, Write};
 
 mod input;
 mod lines;
 mod telling;
 
-fn main() {
-    let mut script = io::large_buffer();
-    let mut input = room();
-    let mut out = room();
-    let n = io::read_full(STDIN_FILENO, &mut script);
-    run(&script[..n], &mut input, &mut out);
+// The most bytes of a script. What stands behind them is not read.
+const MOST_READ: u64 = 65536;
+
+fn main(rt: HostRuntime) -> io::Result<()> {
+    let mut script = Vec::new(rt.alloc());
+    rt.reader().take(MOST_READ).read_to_end(&mut script)?;
+    let mut input = room(rt.alloc())?;
+    let mut lent = room(rt.alloc())?;
+    let mut out = BufWriter::new(rt.alloc(), io::writer(&rt))?;
+    run(&mut out, &script, &mut input, &mut lent)?;
+    out.flush()
 }
 
-// Room for the longest buffer that is lent, and for an input, which is much shorter. Its contract says nothing: an `ensures` on an array of
-// this length runs the checker out of stack.
-fn room() -> [u8; 786432] {
-    [0u8; 786432]
+// Room for the longest buffer that is lent, and for an input, which is much shorter.
+fn room(alloc: Global) -> Result<Vec<u8>, AllocError>
+    ensures { IfOk result (λ v. vec_len v ≡ 786432) }
+{
+    vec![in alloc; 0; 786432]
 }
 
 // Runs a script. The input is the front of the room for it, at first without bytes.
-fn run(script: &[u8], input: &mut [u8], out: &mut [u8]) {
+fn run<W: Write>(out: &mut W, script: &[u8], input: &mut [u8], lent: &mut [u8]) -> io::Result<()> {
     let mut size = 0;
     let mut at = 0;
     while at < script.len() {
         let end = rows::next_line(script, at);
-        size = step(&script[at..end], input, out, size);
+        size = step(out, &script[at..end], input, lent, size)?;
         at = end;
     }
+    Ok(())
 }
 
 // Does one row, and gives the size of the input after it. A row that cannot be done is told as such, which no expected output has.
-fn step(row: &[u8], input: &mut [u8], out: &mut [u8], size: usize) -> usize
+fn step<W: Write>(
+    out: &mut W,
+    row: &[u8],
+    input: &mut [u8],
+    lent: &mut [u8],
+    size: usize,
+) -> io::Result<usize>
     requires { size ≤ length input.old }
-    ensures { result ≤ length input.old }
+    ensures { IfOk result (λ n. n ≤ length input.old) }
 {
     match lines::read(row) {
         Line::Remark => {
-            telling::line(row, b"\n");
-            size
+            telling::line(out, row, b"\n")?;
+            Ok(size)
         }
-        Line::Clear => 0,
-        Line::Put { from, ends } => put(row, input, size, from, ends),
+        Line::Clear => Ok(0),
+        Line::Put { from, ends } => put(out, row, input, size, from, ends),
         Line::Room(n) => {
-            telling::room(row, room::room_for(n));
-            size
+            telling::room(out, row, room::room_for(n))?;
+            Ok(size)
         }
         Line::List { length, byte } => {
-            if length <= out.len() {
-                let lent = input::list(&input[..size], &mut out[..length], byte);
-                telling::listing(row, lent, &out[..length]);
-                return size;
+            if length <= lent.len() {
+                let answer = input::list(&input[..size], &mut lent[..length], byte);
+                telling::listing(out, row, answer, &lent[..length])?;
+                return Ok(size);
             }
-            telling::unread(row);
-            size
+            telling::unread(out, row)?;
+            Ok(size)
         }
         Line::Unread => {
-            telling::unread(row);
-            size
+            telling::unread(out, row)?;
+            Ok(size)
         }
     }
 }
 
 // Puts the text from a place of the row on, and so many line ends, behind the input, and gives its size.
-fn put(row: &[u8], input: &mut [u8], size: usize, from: usize, ends: usize) -> usize
+fn put<W: Write>(
+    out: &mut W,
+    row: &[u8],
+    input: &mut [u8],
+    size: usize,
+    from: usize,
+    ends: usize,
+) -> io::Result<usize>
     requires { size ≤ length input.old }
-    ensures { result ≤ length input.old }
+    ensures { IfOk result (λ n. n ≤ length input.old) }
 {
     let answer = input::put(&mut input[size..], lines::text(row, from), ends);
     match answer {
-        Listed::Length(n) => size + n,
+        Listed::Length(n) => Ok(size + n),
         Listed::Short => {
-            telling::unread(row);
-            size
+            telling::unread(out, row)?;
+            Ok(size)
         }
     }
 }

@@ -3,23 +3,23 @@ use borrow.Author.Rules.{rules}
 use Rattle.book_run.proofs.operations.found.Statement.{statement}
 use Rattle.book_run.proofs.operations.found.Tie as tie
 
-returns : tie.Need-returns
-returns c = rw c.before.answer.given.1
+returns : tie.Need-returns-in-Record
+returns c = rw c.in-Record.is
 
-returns-2 : tie.Need-returns-2
-returns-2 c = rw c.enum_told.given.1
+returns-2 : tie.Need-returns-in-BadLength
+returns-2 c = rw c.in-BadLength.is
 
-returns-3 : tie.Need-returns-3
-returns-3 c = rw c.enum-told2.given.1
+returns-3 : tie.Need-returns-in-BadVersion
+returns-3 c = rw c.in-BadVersion.is
 
-returns-4 : tie.Need-returns-4
-returns-4 c = rw c.before.answer2.given.1
+returns-4 : tie.Need-returns-in-BadRecord
+returns-4 c = rw c.in-BadRecord.is
 
-returns-5 : tie.Need-returns-5
-returns-5 c = rw c.enum-told3.given.1
+returns-5 : tie.Need-returns-in-NoRecord
+returns-5 c = rw c.in-NoRecord.is
 
-pub found-spec : {M : Type 1} → statement M
-found-spec =
+pub found_spec : {M : Type 1} → statement M
+found_spec =
     tie.close
     (tie.spec
     (λ c. search rules)

@@ -3,30 +3,30 @@ use borrow.Author.Rules.{rules}
 use Rattle.book_run.proofs.operations.operate.Statement.{statement}
 use Rattle.book_run.proofs.operations.operate.Tie as tie
 
-returns : tie.Need-returns
+returns : tie.Need-returns-in-New
 returns c =
-    let e = c.before.before.before.before.before.enum_told.given.1 in
-    let called = c.before.before.before.new.ensures in
+    let e = c.in-New.is in
+    let called = c.new.ensures in
     (rw (e, c.started.ensures, called.0), rw e called.1)
 
-returns-2 : tie.Need-returns-2
+returns-2 : tie.Need-returns-in-Check
 returns-2 c =
-    let e = c.before.before.before.enum-told2.given.1 in
-    (rw (e, c.checked.ensures, c.before.check.ensures), rw e)
+    let e = c.in-Check.is in
+    (rw (e, c.checked.ensures, c.check.ensures), rw e)
 
-returns-3 : tie.Need-returns-3
+returns-3 : tie.Need-returns-in-Record
 returns-3 c =
-    let e = c.before.before.before.before.operation.given.1 in
-    (rw (e, c.found.ensures, c.before.next-at.ensures), rw e)
+    let e = c.in-Record.is in
+    (rw (e, c.found.ensures, c.next_at.ensures), rw e)
 
-returns-4 : tie.Need-returns-4
+returns-4 : tie.Need-returns-in-Append
 returns-4 c =
-    let e = c.before.before.before.before.before.before.operation2.given.1 in
-    let called = c.before.before.before.append.ensures in
+    let e = c.in-Append.is in
+    let called = c.append.ensures in
     (rw (e, c.appended.ensures, called.0), rw e called.1)
 
-pub operate-spec : {M : Type 1} → statement M
-operate-spec =
+pub operate_spec : {M : Type 1} → statement M
+operate_spec =
     tie.close
     (tie.spec
     (λ c. search rules)

@@ -3,14 +3,14 @@ use borrow.Author.Rules.{rules}
 use Rattle.book_run.proofs.operations.started.Statement.{statement}
 use Rattle.book_run.proofs.operations.started.Tie as tie
 
-returns : tie.Need-returns
-returns c = rw c.enum_told.given.1
+returns : tie.Need-returns-in-Written
+returns c = rw c.in-Written.is
 
-returns-2 : tie.Need-returns-2
-returns-2 c = rw c.enum-told2.given.1
+returns-2 : tie.Need-returns-in-NoRoom
+returns-2 c = rw c.in-NoRoom.is
 
-pub started-spec : {M : Type 1} → statement M
-started-spec =
+pub started_spec : {M : Type 1} → statement M
+started_spec =
     tie.close
     (tie.spec
     (λ c. search rules)

@@ -7,13 +7,13 @@ use lib.ListN.{length, length-set}
 use Rattle.book_run.proofs.setting.copy.Statement.{statement}
 use Rattle.book_run.proofs.setting.copy.Tie as tie
 
-abbrev invariant-loop : tie.invariant-loop
+abbrev invariant-loop : tie.invariant-loop-i
 invariant-loop buffer₀ from count to i₀ buffer i = (i ≤ count) × (length buffer ≡ length buffer₀)
 
-abbrev decreases-loop : tie.decreases-loop
+abbrev decreases-loop : tie.decreases-loop-i
 decreases-loop buffer₀ from count to i₀ buffer i = count - i
 
-loop-again : tie.Need-loop-preserved invariant-loop decreases-loop
+loop-again : tie.Need-loop-i-preserved invariant-loop decreases-loop
 loop-again c = (omega arith, simp length-set (omega arith))
 
 pub copy_spec : {M : Type 1} → statement M

@@ -5,43 +5,43 @@ use borrow.Author.Rules.{rules}
 use Rattle.book_run.proofs.tables.operate.Statement.{statement}
 use Rattle.book_run.proofs.tables.operate.Tie as tie
 
-returns : tie.Need-returns
+returns : tie.Need-returns-in-New
 returns c =
-    let e = c.before.before.before.before.before.enum_told.given.1 in
-    let called = c.before.before.before.new.ensures in
+    let e = c.in-New.is in
+    let called = c.new.ensures in
     (rw (e, c.started.ensures, called.0), rw e called.1)
 
-returns-2 : tie.Need-returns-2
+returns-2 : tie.Need-returns-in-Check
 returns-2 c =
-    let e = c.before.before.before.enum-told2.given.1 in
-    (rw (e, c.checked.ensures, c.before.check.ensures), rw e)
+    let e = c.in-Check.is in
+    (rw (e, c.checked.ensures, c.check.ensures), rw e)
 
-returns-3 : tie.Need-returns-3
+returns-3 : tie.Need-returns-in-Entry
 returns-3 c =
-    let e = c.before.before.before.before.operation.given.1 in
-    (rw (e, c.found.ensures, c.before.entry-at.ensures), rw e)
+    let e = c.in-Entry.is in
+    (rw (e, c.found.ensures, c.entry_at.ensures), rw e)
 
-returns-4 : tie.Need-returns-4
+returns-4 : tie.Need-returns-in-Declare
 returns-4 c =
-    let e = c.before.before.before.before.before.before.operation2.given.1 in
-    let called = c.before.before.before.declare.ensures in
+    let e = c.in-Declare.is in
+    let called = c.declare.ensures in
     (rw (e, c.changed.ensures, called.0), rw e called.1)
 
-returns-5 : tie.Need-returns-5
+returns-5 : tie.Need-returns-in-Remove
 returns-5 c =
-    let e = c.before.before.before.before.before.before.operation3.given.1 in
-    let called = c.before.before.before.remove.ensures in
-    (rw (e, c.changed2.ensures, called.0), rw e called.1)
+    let e = c.in-Remove.is in
+    let called = c.remove.ensures in
+    (rw (e, c.changed-in-Remove.ensures, called.0), rw e called.1)
 
-returns-6 : tie.Need-returns-6
+returns-6 : tie.Need-returns-in-Lookup
 returns-6 c =
-    let e = c.before.before.before.before.operation4.given.1 in
+    let e = c.in-Lookup.is in
     -- the number that is asked is the one that the operation holds
-    let same = held w32 {z = c.before.before.before.before.operation4.given.0.1.1.0} c.before.before.before.known-told4.given.1.1.0.1 in
-    (rw (e, c.looked.ensures, c.before.lookup.ensures, same), rw e)
+    let same = held w32 {z = c.in-Lookup.number} c.in-Lookup.known_told-in-Lookup-1-own.given.1.1.0.1 in
+    (rw (e, c.looked.ensures, c.lookup.ensures, same), rw e)
 
-pub operate-spec : {M : Type 1} → statement M
-operate-spec =
+pub operate_spec : {M : Type 1} → statement M
+operate_spec =
     tie.close
     (tie.spec
     (λ c. search rules)

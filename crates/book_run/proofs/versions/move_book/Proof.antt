@@ -3,14 +3,14 @@ use borrow.Author.Rules.{rules}
 use Rattle.book_run.proofs.versions.move_book.Statement.{statement}
 use Rattle.book_run.proofs.versions.move_book.Tie as tie
 
-returns : tie.Need-returns
-returns c = rw c.before.before.before.before.before.if1.true (rw c.before.before.before.to-2.ensures.0 at c.moved.ensures, c.before.before.before.to-2.ensures.1)
+returns : tie.Need-returns-then-upward
+returns c = rw c.if-upward.true (rw c.to_2.ensures.0 at c.moved.ensures, c.to_2.ensures.1)
 
-returns-2 : tie.Need-returns-2
-returns-2 c = rw c.before.before.before.before.before.if1.false (rw c.before.before.before.to-1.ensures.0 at c.moved2.ensures, c.before.before.before.to-1.ensures.1)
+returns-2 : tie.Need-returns
+returns-2 c = rw c.if-upward.false (rw c.to_1.ensures.0 at c.moved-2.ensures, c.to_1.ensures.1)
 
-pub move-book-spec : {M : Type 1} → statement M
-move-book-spec =
+pub move_book_spec : {M : Type 1} → statement M
+move_book_spec =
     tie.close
     (tie.spec
     (λ c κs. search rules)

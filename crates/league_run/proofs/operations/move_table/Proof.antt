@@ -5,8 +5,8 @@ use Rattle.league_run.proofs.operations.move_table.Tie as tie
 
 returns : tie.Need-returns
 returns c =
-    let called = c.before.before.before.from-table.ensures in
+    let called = c.from_table.ensures in
     (rw called.0 at c.changed.ensures, called.1)
 
-pub move-table-spec : {M : Type 1} → statement M
-move-table-spec = tie.close (tie.spec (λ c κs. search rules) (λ c κs. search rules) (λ c. search rules) returns)
+pub move_table_spec : {M : Type 1} → statement M
+move_table_spec = tie.close (tie.spec (λ c κs. search rules) (λ c κs. search rules) (λ c. search rules) returns)

@@ -7,17 +7,17 @@ use lib.ListN.{length, length-set}
 use Rattle.league_run.proofs.setting.swap.Statement.{statement}
 use Rattle.league_run.proofs.setting.swap.Tie as tie
 
-abbrev invariant-loop : tie.invariant-loop
+abbrev invariant-loop : tie.invariant-loop-i
 invariant-loop here₀ there₀ i₀ here there i =
     (i ≤ length here) × (length here ≡ length here₀) × (length there ≡ length there₀) × (length here ≡ length there)
 
-abbrev decreases-loop : tie.decreases-loop
+abbrev decreases-loop : tie.decreases-loop-i
 decreases-loop here₀ there₀ i₀ here there i = length here - i
 
-loop-less : tie.Need-loop-smaller invariant-loop decreases-loop
+loop-less : tie.Need-loop-i-smaller invariant-loop decreases-loop
 loop-less c = simp length-set (omega arith)
 
-loop-again : tie.Need-loop-preserved invariant-loop decreases-loop
+loop-again : tie.Need-loop-i-preserved invariant-loop decreases-loop
 loop-again c = (simp length-set (omega arith), simp length-set (omega arith), simp length-set (omega arith), simp length-set (omega arith))
 
 pub swap_spec : {M : Type 1} → statement M

@@ -5,7 +5,7 @@ use Rattle.room_run.proofs.input.list.Tie as tie
 
 returns : tie.Need-returns
 returns c =
-    rw c.before.before.before.before.before.before.fill.ensures at c.before.before.list.ensures
+    rw c.fill.ensures at c.list.ensures
 
-pub list-spec : {M : Type 1} → statement M
-list-spec = tie.close (tie.spec (λ c κs. search rules) (λ c κs. search rules) (λ c. search rules) returns)
+pub list_spec : {M : Type 1} → statement M
+list_spec = tie.close (tie.spec (λ c κs. search rules) (λ c κs. search rules) (λ c. search rules) returns)

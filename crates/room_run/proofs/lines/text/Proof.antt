@@ -9,17 +9,17 @@ use borrow.Author.Rules.{rules}
 use Rattle.room_run.proofs.lines.text.Statement.{statement}
 use Rattle.room_run.proofs.lines.text.Tie as tie
 
-returns : tie.Need-returns
+returns : tie.Need-returns-then-row-from
 unfolding index_of
 returns c =
-    rw (past c.before.before.before.args.row.now c.before.before.before.args.from (omega arith))
+    rw (past c.args.row.now c.args.from (omega arith))
 
-returns-2 : tie.Need-returns-2
+returns-2 : tie.Need-returns
 returns-2 c =
-    let e : c.before.find.result - c.before.before.before.before.args.from ≡ index_of 10 (drop c.before.before.before.before.args.from c.before.before.before.before.args.row.now) = omega (arith, rw to_end at c.before.find.ensures.0) in rw e
+    let e : c.find-end.result - c.args.from ≡ index_of 10 (drop c.args.from c.args.row.now) = omega (arith, rw to_end at c.find-end.ensures.0) in rw e
 
-pub text-spec : {M : Type 1} → statement M
-text-spec =
+pub text_spec : {M : Type 1} → statement M
+text_spec =
     tie.close
     (tie.spec
     (λ c. search rules)

@@ -5,19 +5,19 @@ use borrow.Author.Rules.{rules}
 use Rattle.room_run.proofs.lines.worded.Statement.{statement}
 use Rattle.room_run.proofs.lines.worded.Tie as tie
 
-returns : tie.Need-returns
+returns : tie.Need-returns-then-after_word-row
 unfolding worded_or
 returns c =
-    rw (← c.before.before.before.ends.ensures, c.before.before.if1.true, ← c.before.after-word.ensures, here c.before.before.before.before.before.before.args.row.now c.before.after-word.result c.if2.true)
+    rw (← c.ends.ensures, c.if-ends.true, ← c.after_word.ensures, here c.args.row.now c.after_word.result c.if-after_word-row.true)
 
-returns-2 : tie.Need-returns-2
+returns-2 : tie.Need-returns-else-after_word-row
 unfolding worded_or
 returns-2 c =
-    rw (← c.before.before.before.ends.ensures, c.before.before.if1.true, ← c.before.after-word.ensures, past c.before.before.before.before.before.before.args.row.now c.before.after-word.result c.if2.false)
+    rw (← c.ends.ensures, c.if-ends.true, ← c.after_word.ensures, past c.args.row.now c.after_word.result c.if-after_word-row.false)
 
-returns-3 : tie.Need-returns-3
+returns-3 : tie.Need-returns-else-ends
 unfolding worded_or
-returns-3 c = rw (← c.before.ends.ensures, c.if1.false)
+returns-3 c = rw (← c.ends.ensures, c.if-ends.false)
 
-pub worded-spec : {M : Type 1} → statement M
-worded-spec = tie.close (tie.spec (λ c κs. search rules) (λ c κs. search rules) returns returns-2 returns-3)
+pub worded_spec : {M : Type 1} → statement M
+worded_spec = tie.close (tie.spec (λ c κs. search rules) (λ c κs. search rules) returns returns-2 returns-3)

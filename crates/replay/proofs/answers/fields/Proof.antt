@@ -6,68 +6,68 @@ use borrow.Author.Rules.{rules}
 use Rattle.replay.proofs.answers.fields.Statement.{statement}
 use Rattle.replay.proofs.answers.fields.Tie as tie
 
-returns : tie.Need-returns
+returns : tie.Need-returns-in_default
 unfolding from_fields
 returns c =
-    rw (c.before.before.before.before.enum_told.given.1, ← (rw (held w16 {z = c.before.before.before.before.before.before.args.f.year} c.before.before.before.struct_told.given.0.1) at c.before.before.from-ymdh-opt.ensures), c.enum-told2.given.1)
+    rw (c.in-Raw.is, ← (rw (held w16 {z = c.args.f.year} c.struct_told-1.given.0.1) at c.from_ymdh_opt.ensures), c.in_default.is)
 
-returns-2 : tie.Need-returns-2
+returns-2 : tie.Need-returns-in_default-from_ymd_opt
 unfolding from_fields
 returns-2 c =
-    rw (c.before.before.before.before.enum-told3.given.1, ← (rw (held w16 {z = c.before.before.before.before.before.before.args.f.year} c.before.before.before.struct-told2.given.0.1) at c.before.before.from-ymd-opt.ensures), c.enum-told4.given.1)
+    rw (c.in-Date.is, ← (rw (held w16 {z = c.args.f.year} c.struct_told-in-Date-1.given.0.1) at c.from_ymd_opt.ensures), c.in_default-from_ymd_opt.is)
 
-returns-3 : tie.Need-returns-3
+returns-3 : tie.Need-returns-in_default-from_ymdh_opt
 unfolding from_fields
 returns-3 c =
-    rw (c.before.before.before.before.enum-told5.given.1, ← (rw (held w16 {z = c.before.before.before.before.before.before.args.f.year} c.before.before.before.struct-told3.given.0.1) at c.before.before.from-ymdh-opt2.ensures), c.enum-told6.given.1)
+    rw (c.in-Hour.is, ← (rw (held w16 {z = c.args.f.year} c.struct_told-in-Hour-1.given.0.1) at c.from_ymdh_opt-in-Hour.ensures), c.in_default-from_ymdh_opt.is)
 
-returns-4 : tie.Need-returns-4
+returns-4 : tie.Need-returns-in_default-from_ymd_opt-2
 unfolding from_fields
 returns-4 c =
-    rw (c.before.before.before.before.enum-told7.given.1, ← (rw (held w16 {z = c.before.before.before.before.before.before.args.f.year} c.before.before.before.struct-told4.given.0.1) at c.before.before.from-ymd-opt2.ensures), c.enum-told8.given.1)
+    rw (c.in-Uniform.is, ← (rw (held w16 {z = c.args.f.year} c.struct_told-in-Uniform-1.given.0.1) at c.from_ymd_opt-in-Uniform.ensures), c.in_default-from_ymd_opt-2.is)
 
-returns-5 : tie.Need-returns-5
+returns-5 : tie.Need-returns-in_default-from_ymd_opt-3
 unfolding from_fields
 returns-5 c =
-    rw (c.before.before.before.before.enum-told9.given.1, ← (rw (held w16 {z = c.before.before.before.before.before.before.args.f.year} c.before.before.before.struct-told5.given.0.1) at c.before.before.from-ymd-opt3.ensures), c.enum-told10.given.1)
+    rw (c.in-Eu5.is, ← (rw (held w16 {z = c.args.f.year} c.struct_told-in-Eu5-1.given.0.1) at c.from_ymd_opt-in-Eu5.ensures), c.in_default-from_ymd_opt-3.is)
 
-returns-6 : tie.Need-returns-6
+returns-6 : tie.Need-returns-in_default-from_ymdh_opt-2
 unfolding from_fields
 returns-6 c =
-    rw (c.before.before.before.before.enum-told11.given.1, ← (rw (held w16 {z = c.before.before.before.before.before.before.args.f.year} c.before.before.before.struct-told6.given.0.1) at c.before.before.from-ymdh-opt3.ensures), c.enum-told12.given.1)
+    rw (c.in-Vic3.is, ← (rw (held w16 {z = c.args.f.year} c.struct_told-in-Vic3-1.given.0.1) at c.from_ymdh_opt-in-Vic3.ensures), c.in_default-from_ymdh_opt-2.is)
 
-returns-7 : tie.Need-returns-7
+returns-7 : tie.Need-returns-in-Date-from_ymdh_opt
 unfolding from_fields
 returns-7 c =
-    rw (c.date.ensures, c.before.before.before.before.before.before.enum_told.given.1, ← (rw (held w16 {z = c.before.before.before.before.before.before.before.before.args.f.year} c.before.before.before.before.before.struct_told.given.0.1) at c.before.before.before.before.from-ymdh-opt.ensures), c.before.before.d.given.1)
+    rw (c.date.ensures, c.in-Raw.is, ← (rw (held w16 {z = c.args.f.year} c.struct_told-1.given.0.1) at c.from_ymdh_opt.ensures), c.in-Date-from_ymdh_opt.is)
 
-returns-8 : tie.Need-returns-8
+returns-8 : tie.Need-returns-in-Date-from_ymd_opt
 unfolding from_fields
 returns-8 c =
-    rw (c.date2.ensures, c.before.before.before.before.before.before.enum-told3.given.1, ← (rw (held w16 {z = c.before.before.before.before.before.before.before.before.args.f.year} c.before.before.before.before.before.struct-told2.given.0.1) at c.before.before.before.before.from-ymd-opt.ensures), c.before.before.d2.given.1)
+    rw (c.date-in-Date.ensures, c.in-Date.is, ← (rw (held w16 {z = c.args.f.year} c.struct_told-in-Date-1.given.0.1) at c.from_ymd_opt.ensures), c.in-Date-from_ymd_opt.is)
 
-returns-9 : tie.Need-returns-9
+returns-9 : tie.Need-returns-in-Date-from_ymdh_opt-2
 unfolding from_fields
 returns-9 c =
-    rw (c.date3.ensures, c.before.before.before.before.before.before.enum-told5.given.1, ← (rw (held w16 {z = c.before.before.before.before.before.before.before.before.args.f.year} c.before.before.before.before.before.struct-told3.given.0.1) at c.before.before.before.before.from-ymdh-opt2.ensures), c.before.before.d3.given.1)
+    rw (c.date-in-Hour.ensures, c.in-Hour.is, ← (rw (held w16 {z = c.args.f.year} c.struct_told-in-Hour-1.given.0.1) at c.from_ymdh_opt-in-Hour.ensures), c.in-Date-from_ymdh_opt-2.is)
 
-returns-10 : tie.Need-returns-10
+returns-10 : tie.Need-returns-in-Date-from_ymd_opt-2
 unfolding from_fields
 returns-10 c =
-    rw (c.date4.ensures, c.before.before.before.before.before.before.enum-told7.given.1, ← (rw (held w16 {z = c.before.before.before.before.before.before.before.before.args.f.year} c.before.before.before.before.before.struct-told4.given.0.1) at c.before.before.before.before.from-ymd-opt2.ensures), c.before.before.d4.given.1)
+    rw (c.date-in-Uniform.ensures, c.in-Uniform.is, ← (rw (held w16 {z = c.args.f.year} c.struct_told-in-Uniform-1.given.0.1) at c.from_ymd_opt-in-Uniform.ensures), c.in-Date-from_ymd_opt-2.is)
 
-returns-11 : tie.Need-returns-11
+returns-11 : tie.Need-returns-in-Date-from_ymd_opt-3
 unfolding from_fields
 returns-11 c =
-    rw (c.date5.ensures, c.before.before.before.before.before.before.enum-told9.given.1, ← (rw (held w16 {z = c.before.before.before.before.before.before.before.before.args.f.year} c.before.before.before.before.before.struct-told5.given.0.1) at c.before.before.before.before.from-ymd-opt3.ensures), c.before.before.d5.given.1)
+    rw (c.date-in-Eu5.ensures, c.in-Eu5.is, ← (rw (held w16 {z = c.args.f.year} c.struct_told-in-Eu5-1.given.0.1) at c.from_ymd_opt-in-Eu5.ensures), c.in-Date-from_ymd_opt-3.is)
 
-returns-12 : tie.Need-returns-12
+returns-12 : tie.Need-returns-in-Date-from_ymdh_opt-3
 unfolding from_fields
 returns-12 c =
-    rw (c.date6.ensures, c.before.before.before.before.before.before.enum-told11.given.1, ← (rw (held w16 {z = c.before.before.before.before.before.before.before.before.args.f.year} c.before.before.before.before.before.struct-told6.given.0.1) at c.before.before.before.before.from-ymdh-opt3.ensures), c.before.before.d6.given.1)
+    rw (c.date-in-Vic3.ensures, c.in-Vic3.is, ← (rw (held w16 {z = c.args.f.year} c.struct_told-in-Vic3-1.given.0.1) at c.from_ymdh_opt-in-Vic3.ensures), c.in-Date-from_ymdh_opt-3.is)
 
-pub fields-spec : {M : Type 1} → statement M
-fields-spec =
+pub fields_spec : {M : Type 1} → statement M
+fields_spec =
     tie.close
     (tie.spec
     (λ c. search rules)

@@ -4,40 +4,40 @@ use borrow.Author.Rules.{rules}
 use Rattle.replay.proofs.answers.guess.Statement.{statement}
 use Rattle.replay.proofs.answers.guess.Tie as tie
 
-returns : tie.Need-returns
+returns : tie.Need-returns-in_default
 returns c =
-    rw (c.before.before.before.enum-told2.given.1, ← (rw (to_z-of_z c.before.before.before.before.before.ranges.n) at c.before.before.from-binary-heuristic.ensures), c.enum-told3.given.1)
+    rw (c.in-Date.is, ← (rw (to_z-of_z c.ranges.n) at c.from_binary_heuristic.ensures), c.in_default.is)
 
-returns-2 : tie.Need-returns-2
+returns-2 : tie.Need-returns-in_default-from_binary_heuristic
 returns-2 c =
-    rw (c.before.before.before.enum-told4.given.1, ← (rw (to_z-of_z c.before.before.before.before.before.ranges.n) at c.before.before.from-binary-heuristic2.ensures), c.enum-told5.given.1)
+    rw (c.in-Hour.is, ← (rw (to_z-of_z c.ranges.n) at c.from_binary_heuristic-in-Hour.ensures), c.in_default-from_binary_heuristic.is)
 
-returns-3 : tie.Need-returns-3
+returns-3 : tie.Need-returns-in_default-from_binary_heuristic-2
 returns-3 c =
-    rw (c.before.before.before.enum-told7.given.1, ← (rw (to_z-of_z c.before.before.before.before.before.ranges.n) at c.before.before.from-binary-heuristic3.ensures), c.enum-told8.given.1)
+    rw (c.in-Eu5.is, ← (rw (to_z-of_z c.ranges.n) at c.from_binary_heuristic-in-Eu5.ensures), c.in_default-from_binary_heuristic-2.is)
 
-returns-4 : tie.Need-returns-4
+returns-4 : tie.Need-returns-in_default-from_binary_heuristic-3
 returns-4 c =
-    rw (c.before.before.before.enum-told9.given.1, ← (rw (to_z-of_z c.before.before.before.before.before.ranges.n) at c.before.before.from-binary-heuristic4.ensures), c.enum-told10.given.1)
+    rw (c.in-Vic3.is, ← (rw (to_z-of_z c.ranges.n) at c.from_binary_heuristic-in-Vic3.ensures), c.in_default-from_binary_heuristic-3.is)
 
-returns-6 : tie.Need-returns-6
+returns-6 : tie.Need-returns-in-Date-from_binary_heuristic
 returns-6 c =
-    rw (c.date.ensures, c.before.before.before.before.before.enum-told2.given.1, ← (rw (to_z-of_z c.before.before.before.before.before.before.before.ranges.n) at c.before.before.before.before.from-binary-heuristic.ensures), c.before.before.d.given.1)
+    rw (c.date.ensures, c.in-Date.is, ← (rw (to_z-of_z c.ranges.n) at c.from_binary_heuristic.ensures), c.in-Date-from_binary_heuristic.is)
 
-returns-7 : tie.Need-returns-7
+returns-7 : tie.Need-returns-in-Date-from_binary_heuristic-2
 returns-7 c =
-    rw (c.date2.ensures, c.before.before.before.before.before.enum-told4.given.1, ← (rw (to_z-of_z c.before.before.before.before.before.before.before.ranges.n) at c.before.before.before.before.from-binary-heuristic2.ensures), c.before.before.d2.given.1)
+    rw (c.date-in-Hour.ensures, c.in-Hour.is, ← (rw (to_z-of_z c.ranges.n) at c.from_binary_heuristic-in-Hour.ensures), c.in-Date-from_binary_heuristic-2.is)
 
-returns-9 : tie.Need-returns-9
+returns-9 : tie.Need-returns-in-Date-from_binary_heuristic-3
 returns-9 c =
-    rw (c.date3.ensures, c.before.before.before.before.before.enum-told7.given.1, ← (rw (to_z-of_z c.before.before.before.before.before.before.before.ranges.n) at c.before.before.before.before.from-binary-heuristic3.ensures), c.before.before.d3.given.1)
+    rw (c.date-in-Eu5.ensures, c.in-Eu5.is, ← (rw (to_z-of_z c.ranges.n) at c.from_binary_heuristic-in-Eu5.ensures), c.in-Date-from_binary_heuristic-3.is)
 
-returns-10 : tie.Need-returns-10
+returns-10 : tie.Need-returns-in-Date-from_binary_heuristic-4
 returns-10 c =
-    rw (c.date4.ensures, c.before.before.before.before.before.enum-told9.given.1, ← (rw (to_z-of_z c.before.before.before.before.before.before.before.ranges.n) at c.before.before.before.before.from-binary-heuristic4.ensures), c.before.before.d4.given.1)
+    rw (c.date-in-Vic3.ensures, c.in-Vic3.is, ← (rw (to_z-of_z c.ranges.n) at c.from_binary_heuristic-in-Vic3.ensures), c.in-Date-from_binary_heuristic-4.is)
 
-pub guess-spec : {M : Type 1} → statement M
-guess-spec =
+pub guess_spec : {M : Type 1} → statement M
+guess_spec =
     tie.close
     (tie.spec
     (λ c. search rules)

@@ -5,7 +5,7 @@ use borrow.Author.Rules.{rules}
 use Rattle.replay.proofs.answers.iso.Statement.{statement}
 use Rattle.replay.proofs.answers.iso.Tie as tie
 
-pub iso-spec : {M : Type 1} → statement M
-iso-spec =
+pub iso_spec : {M : Type 1} → statement M
+iso_spec =
     tie.close
-    (tie.spec (λ c κs. search rules) (λ c κs. search rules) (λ c. c.parsed.ensures ∙ ap dated c.before.parse-iso.ensures))
+    (tie.spec (λ c κs. search rules) (λ c κs. search rules) (λ c. c.parsed.ensures ∙ ap dated c.parse_iso.ensures))

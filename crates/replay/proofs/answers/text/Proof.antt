@@ -5,7 +5,7 @@ use borrow.Author.Rules.{rules}
 use Rattle.replay.proofs.answers.text.Statement.{statement}
 use Rattle.replay.proofs.answers.text.Tie as tie
 
-pub text-spec : {M : Type 1} → statement M
-text-spec =
+pub text_spec : {M : Type 1} → statement M
+text_spec =
     tie.close
-    (tie.spec (λ c κs. search rules) (λ c κs. search rules) (λ c. c.parsed.ensures ∙ ap dated c.before.parse.ensures))
+    (tie.spec (λ c κs. search rules) (λ c κs. search rules) (λ c. c.parsed.ensures ∙ ap dated c.parse.ensures))

@@ -3,26 +3,26 @@ use borrow.Author.Rules.{rules}
 use Rattle.replay.proofs.dates.exchange.Statement.{statement}
 use Rattle.replay.proofs.dates.exchange.Tie as tie
 
-returns : tie.Need-returns
-returns c = rw c.before.before.before.before.enum_told.given.1 c.before.before.exchange.ensures
+returns : tie.Need-returns-in-Raw
+returns c = rw c.in-Raw.is c.exchange.ensures
 
-returns-2 : tie.Need-returns-2
-returns-2 c = rw c.before.before.before.before.enum-told2.given.1 c.before.before.exchange2.ensures
+returns-2 : tie.Need-returns-in-Date
+returns-2 c = rw c.in-Date.is c.exchange-in-Date.ensures
 
-returns-3 : tie.Need-returns-3
-returns-3 c = rw c.before.before.before.before.enum-told3.given.1 c.before.before.exchange3.ensures
+returns-3 : tie.Need-returns-in-Hour
+returns-3 c = rw c.in-Hour.is c.exchange-in-Hour.ensures
 
-returns-4 : tie.Need-returns-4
-returns-4 c = rw c.before.before.before.before.enum-told4.given.1 c.before.before.exchange4.ensures
+returns-4 : tie.Need-returns-in-Uniform
+returns-4 c = rw c.in-Uniform.is c.exchange-in-Uniform.ensures
 
-returns-5 : tie.Need-returns-5
-returns-5 c = rw c.before.before.before.before.enum-told5.given.1 c.before.before.exchange5.ensures
+returns-5 : tie.Need-returns-in-Eu5
+returns-5 c = rw c.in-Eu5.is c.exchange-in-Eu5.ensures
 
-returns-6 : tie.Need-returns-6
-returns-6 c = rw c.before.before.before.before.enum-told6.given.1 c.before.before.exchange6.ensures
+returns-6 : tie.Need-returns-in-Vic3
+returns-6 c = rw c.in-Vic3.is c.exchange-in-Vic3.ensures
 
-pub exchange-spec : {M : Type 1} → statement M
-exchange-spec =
+pub exchange_spec : {M : Type 1} → statement M
+exchange_spec =
     tie.close
     (tie.spec
     (λ c. search rules)

@@ -5,32 +5,32 @@ use borrow.Author.Rules.{rules}
 use Rattle.replay.proofs.dates.shown.Statement.{statement}
 use Rattle.replay.proofs.dates.shown.Tie as tie
 
-returns : tie.Need-returns
+returns : tie.Need-returns-in-Raw
 returns c =
-    rw (c.seen.ensures, held w16 c.before.before.before.before.year.type-inv, c.before.before.before.before.year.ensures, c.before.before.before.month.ensures, c.before.before.day.ensures, c.before.hour.ensures)
+    rw (c.seen.ensures, held w16 c.year.type_inv, c.year.ensures, c.month.ensures, c.day.ensures, c.hour.ensures)
 
-returns-2 : tie.Need-returns-2
+returns-2 : tie.Need-returns-in-Date
 returns-2 c =
-    rw (c.seen2.ensures, held w16 c.before.before.before.before.year2.type-inv, c.before.before.before.before.year2.ensures, c.before.before.before.month2.ensures, c.before.before.day2.ensures, c.before.hour2.ensures)
+    rw (c.seen-in-Date.ensures, held w16 c.year-in-Date.type_inv, c.year-in-Date.ensures, c.month-in-Date.ensures, c.day-in-Date.ensures, c.hour-in-Date.ensures)
 
-returns-3 : tie.Need-returns-3
+returns-3 : tie.Need-returns-in-Hour
 returns-3 c =
-    rw (c.seen3.ensures, held w16 c.before.before.before.before.year3.type-inv, c.before.before.before.before.year3.ensures, c.before.before.before.month3.ensures, c.before.before.day3.ensures, c.before.hour3.ensures)
+    rw (c.seen-in-Hour.ensures, held w16 c.year-in-Hour.type_inv, c.year-in-Hour.ensures, c.month-in-Hour.ensures, c.day-in-Hour.ensures, c.hour-in-Hour.ensures)
 
-returns-4 : tie.Need-returns-4
+returns-4 : tie.Need-returns-in-Uniform
 returns-4 c =
-    rw (c.seen4.ensures, held w16 c.before.before.before.before.year4.type-inv, c.before.before.before.before.year4.ensures, c.before.before.before.month4.ensures, c.before.before.day4.ensures, c.before.hour4.ensures)
+    rw (c.seen-in-Uniform.ensures, held w16 c.year-in-Uniform.type_inv, c.year-in-Uniform.ensures, c.month-in-Uniform.ensures, c.day-in-Uniform.ensures, c.hour-in-Uniform.ensures)
 
-returns-5 : tie.Need-returns-5
+returns-5 : tie.Need-returns-in-Eu5
 returns-5 c =
-    rw (c.seen5.ensures, held w16 c.before.before.before.before.year5.type-inv, c.before.before.before.before.year5.ensures, c.before.before.before.month5.ensures, c.before.before.day5.ensures, c.before.component.ensures)
+    rw (c.seen-in-Eu5.ensures, held w16 c.year-in-Eu5.type_inv, c.year-in-Eu5.ensures, c.month-in-Eu5.ensures, c.day-in-Eu5.ensures, c.component.ensures)
 
-returns-6 : tie.Need-returns-6
+returns-6 : tie.Need-returns-in-Vic3
 returns-6 c =
-    rw (c.seen6.ensures, held w16 c.before.before.before.before.year6.type-inv, c.before.before.before.before.year6.ensures, c.before.before.before.month6.ensures, c.before.before.day6.ensures, c.before.hour5.ensures)
+    rw (c.seen-in-Vic3.ensures, held w16 c.year-in-Vic3.type_inv, c.year-in-Vic3.ensures, c.month-in-Vic3.ensures, c.day-in-Vic3.ensures, c.hour-in-Vic3.ensures)
 
-pub shown-spec : {M : Type 1} → statement M
-shown-spec =
+pub shown_spec : {M : Type 1} → statement M
+shown_spec =
     tie.close
     (tie.spec
     (λ c. search rules)

@@ -3,15 +3,15 @@ use borrow.Author.Rules.{rules}
 use Rattle.replay.proofs.days.binary.Statement.{statement}
 use Rattle.replay.proofs.days.binary.Tie as tie
 
-returns-2 : tie.Need-returns-2
-returns-2 c = rw (c.before.before.enum-told2.given.1, c.binary-told.ensures, c.before.to-binary.ensures)
+returns-2 : tie.Need-returns-in-Date
+returns-2 c = rw (c.in-Date.is, c.binary_told.ensures, c.to_binary.ensures)
 
-returns-3 : tie.Need-returns-3
+returns-3 : tie.Need-returns-in-Hour
 returns-3 c =
-    rw (c.before.before.enum-told3.given.1, c.binary-told2.ensures, c.before.to-binary2.ensures)
+    rw (c.in-Hour.is, c.binary_told-in-Hour.ensures, c.to_binary-in-Hour.ensures)
 
-pub binary-spec : {M : Type 1} → statement M
-binary-spec =
+pub binary_spec : {M : Type 1} → statement M
+binary_spec =
     tie.close
     (tie.spec
     (λ c. search rules)

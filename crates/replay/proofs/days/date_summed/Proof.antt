@@ -3,20 +3,20 @@ use borrow.Author.Rules.{rules}
 use Rattle.replay.proofs.days.date_summed.Statement.{statement}
 use Rattle.replay.proofs.days.date_summed.Tie as tie
 
-returns : tie.Need-returns
-returns c = rw (c.date.ensures, c.before.before.answer.given.1)
+returns : tie.Need-returns-in-Date
+returns c = rw (c.date.ensures, c.in-Date.is)
 
-returns-2 : tie.Need-returns-2
-returns-2 c = rw c.enum_told.given.1
+returns-2 : tie.Need-returns-in-NotOfKind
+returns-2 c = rw c.in-NotOfKind.is
 
-returns-3 : tie.Need-returns-3
-returns-3 c = rw c.enum-told2.given.1
+returns-3 : tie.Need-returns-in-Overflow
+returns-3 c = rw c.in-Overflow.is
 
-returns-4 : tie.Need-returns-4
-returns-4 c = rw c.enum-told3.given.1
+returns-4 : tie.Need-returns-in-OutOfRange
+returns-4 c = rw c.in-OutOfRange.is
 
-pub date-summed-spec : {M : Type 1} → statement M
-date-summed-spec =
+pub date_summed_spec : {M : Type 1} → statement M
+date_summed_spec =
     tie.close
     (tie.spec
     (λ c. search rules)

@@ -3,20 +3,20 @@ use borrow.Author.Rules.{rules}
 use Rattle.replay.proofs.days.difference.Statement.{statement}
 use Rattle.replay.proofs.days.difference.Tie as tie
 
-returns-2 : tie.Need-returns-2
+returns-2 : tie.Need-returns-in-Date
 returns-2 c =
-    rw (c.before.before.enum-told2.given.1, c.difference-told.ensures, c.before.days-until.ensures)
+    rw (c.in-Date.is, c.difference_told.ensures, c.days_until.ensures)
 
-returns-5 : tie.Need-returns-5
+returns-5 : tie.Need-returns-in-Eu5
 returns-5 c =
-    rw (c.before.before.enum-told5.given.1, c.difference-told2.ensures, c.before.days-until2.ensures)
+    rw (c.in-Eu5.is, c.difference_told-in-Eu5.ensures, c.days_until-in-Eu5.ensures)
 
-returns-6 : tie.Need-returns-6
+returns-6 : tie.Need-returns-in-Vic3
 returns-6 c =
-    rw (c.before.before.enum-told6.given.1, c.difference-told3.ensures, c.before.days-until3.ensures)
+    rw (c.in-Vic3.is, c.difference_told-in-Vic3.ensures, c.days_until-in-Vic3.ensures)
 
-pub difference-spec : {M : Type 1} → statement M
-difference-spec =
+pub difference_spec : {M : Type 1} → statement M
+difference_spec =
     tie.close
     (tie.spec
     (λ c. search rules)

@@ -8,12 +8,12 @@ use borrow.Author.Rules.{rules}
 use Rattle.replay.proofs.days.difference_told.Statement.{statement}
 use Rattle.replay.proofs.days.difference_told.Tie as tie
 
-returns : tie.Need-returns
+returns : tie.Need-returns-in-Days
 returns c =
-    rw c.before.answer.given.1 (ap (λ z. Gives (Counted z)) (held w32 c.known-told.given.0.1))
+    rw c.in-Days.is (ap (λ z. Gives (Counted z)) (held w32 c.in-Days.known_told-1-own.given.0.1))
 
-returns-2 : tie.Need-returns-2
-returns-2 c = rw c.enum_told.given.1
+returns-2 : tie.Need-returns-in-NotOfKind
+returns-2 c = rw c.in-NotOfKind.is
 
-pub difference-told-spec : {M : Type 1} → statement M
-difference-told-spec = tie.close (tie.spec (λ c. search rules) (λ c. search rules) returns returns-2)
+pub difference_told_spec : {M : Type 1} → statement M
+difference_told_spec = tie.close (tie.spec (λ c. search rules) (λ c. search rules) returns returns-2)

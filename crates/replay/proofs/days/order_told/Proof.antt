@@ -3,19 +3,19 @@ use borrow.Author.Rules.{rules}
 use Rattle.replay.proofs.days.order_told.Statement.{statement}
 use Rattle.replay.proofs.days.order_told.Tie as tie
 
-returns : tie.Need-returns
-returns c = rw c.enum_told.given.1
+returns : tie.Need-returns-in-Before
+returns c = rw c.in-Before.is
 
-returns-2 : tie.Need-returns-2
-returns-2 c = rw c.enum-told2.given.1
+returns-2 : tie.Need-returns-in-Same
+returns-2 c = rw c.in-Same.is
 
-returns-3 : tie.Need-returns-3
-returns-3 c = rw c.enum-told3.given.1
+returns-3 : tie.Need-returns-in-After
+returns-3 c = rw c.in-After.is
 
-returns-4 : tie.Need-returns-4
-returns-4 c = rw c.enum-told4.given.1
+returns-4 : tie.Need-returns-in-NotOfKind
+returns-4 c = rw c.in-NotOfKind.is
 
-pub order-told-spec : {M : Type 1} → statement M
-order-told-spec =
+pub order_told_spec : {M : Type 1} → statement M
+order_told_spec =
     tie.close
     (tie.spec (λ c. search rules) (λ c. search rules) (λ c. search rules) (λ c. search rules) returns returns-2 returns-3 returns-4)

@@ -4,20 +4,20 @@ use borrow.Author.Rules.{rules}
 use Rattle.replay.proofs.days.sum.Statement.{statement}
 use Rattle.replay.proofs.days.sum.Tie as tie
 
-returns-2 : tie.Need-returns-2
+returns-2 : tie.Need-returns-in-Date
 returns-2 c =
-    rw (c.before.before.enum-told2.given.1, c.date-summed.ensures, rw (to_z-of_z c.before.before.before.before.ranges.days) at c.before.add-days.ensures)
+    rw (c.in-Date.is, c.date_summed.ensures, rw (to_z-of_z c.ranges.days) at c.add_days.ensures)
 
-returns-5 : tie.Need-returns-5
+returns-5 : tie.Need-returns-in-Eu5
 returns-5 c =
-    rw (c.before.before.enum-told5.given.1, c.eu5-date-summed.ensures, rw (to_z-of_z c.before.before.before.before.ranges.days) at c.before.add-days2.ensures)
+    rw (c.in-Eu5.is, c.eu5_date_summed.ensures, rw (to_z-of_z c.ranges.days) at c.add_days-in-Eu5.ensures)
 
-returns-6 : tie.Need-returns-6
+returns-6 : tie.Need-returns-in-Vic3
 returns-6 c =
-    rw (c.before.before.enum-told6.given.1, c.vic3-date-summed.ensures, rw (to_z-of_z c.before.before.before.before.ranges.days) at c.before.add-days3.ensures)
+    rw (c.in-Vic3.is, c.vic3_date_summed.ensures, rw (to_z-of_z c.ranges.days) at c.add_days-in-Vic3.ensures)
 
-pub sum-spec : {M : Type 1} → statement M
-sum-spec =
+pub sum_spec : {M : Type 1} → statement M
+sum_spec =
     tie.close
     (tie.spec
     (λ c. search rules)

@@ -11,7 +11,7 @@ use Rattle.replay.proofs.leaves.binary.Tie as tie
 
 returns : tie.Need-returns
 returns c =
-    ap (λ z. Gives (Counted z)) (held w32 c.to-binary.type-inv ∙ (rw (c.before.lowered.ensures, to_z-of_z c.before.before.ranges.year) at c.to-binary.ensures))
+    ap (λ z. Gives (Counted z)) (held w32 c.to_binary.type_inv ∙ (rw (c.lowered.ensures, to_z-of_z c.ranges.year) at c.to_binary.ensures))
 
-pub binary-spec : {M : Type 1} → statement M
-binary-spec = tie.close (tie.spec (λ c κs. search rules) (λ c κs. search rules) returns)
+pub binary_spec : {M : Type 1} → statement M
+binary_spec = tie.close (tie.spec (λ c κs. search rules) (λ c κs. search rules) returns)

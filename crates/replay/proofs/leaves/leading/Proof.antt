@@ -6,16 +6,16 @@ use borrow.Author.Rules.{rules}
 use Rattle.replay.proofs.leaves.leading.Statement.{statement}
 use Rattle.replay.proofs.leaves.leading.Tie as tie
 
-returns : tie.Need-returns
-returns c = rw (← c.before.before.to-i64-t.ensures.0, c.enum_told.given.1)
+returns : tie.Need-returns-in_default
+returns c = rw (← c.to_i64_t.ensures.0, c.in_default.is)
 
-sub-t6 : tie.Need-overflow-sub-t6
-sub-t6 c = rw c.before.value.given.1 at c.before.before.before.to-i64-t.ensures.1
+sub-t6 : tie.Need-overflow_sub-result
+sub-t6 c = rw c.in-Number.is at c.to_i64_t.ensures.1
 
-returns-2 : tie.Need-returns-2
+returns-2 : tie.Need-returns
 returns-2 c =
-    rw (held w64 c.known-told.given.0.1, ← c.before.before.before.to-i64-t.ensures.0, c.before.value.given.1, length-drop)
+    rw (held w64 c.in-Number.known_told-1-own.given.0.1, ← c.to_i64_t.ensures.0, c.in-Number.is, length-drop)
 
-pub leading-spec : {M : Type 1} → statement M
-leading-spec =
+pub leading_spec : {M : Type 1} → statement M
+leading_spec =
     tie.close (tie.spec (λ c κs. search rules) (λ c. search rules) (λ c. search rules) returns sub-t6 returns-2)

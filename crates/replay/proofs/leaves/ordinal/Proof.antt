@@ -8,15 +8,15 @@ use borrow.Author.Rules.{rules}
 use Rattle.replay.proofs.leaves.ordinal.Statement.{statement}
 use Rattle.replay.proofs.leaves.ordinal.Tie as tie
 
-returns : tie.Need-returns
-returns c = rw (← c.before.before.julian-ordinal-day.ensures, c.enum_told.given.1)
+returns : tie.Need-returns-in_default
+returns c = rw (← c.julian_ordinal_day.ensures, c.in_default.is)
 
-returns-2 : tie.Need-returns-2
+returns-2 : tie.Need-returns
 returns-2 c =
-    rw (← c.before.before.before.before.julian-ordinal-day.ensures, c.before.before.first.given.1) (ap (λ z. Gives (Counted z)) (held w32 c.int32.type-inv ∙ c.int32.ensures))
+    rw (← c.julian_ordinal_day.ensures, c.in-Day.is) (ap (λ z. Gives (Counted z)) (held w32 c.int32.type_inv ∙ c.int32.ensures))
 
-pub ordinal-spec : {M : Type 1} → statement M
-ordinal-spec =
+pub ordinal_spec : {M : Type 1} → statement M
+ordinal_spec =
     tie.close
     (tie.spec
     (λ c κs. search rules)

@@ -3,44 +3,44 @@ use borrow.Author.Rules.{rules}
 use Rattle.replay.proofs.marks.without_mark.Statement.{statement}
 use Rattle.replay.proofs.marks.without_mark.Tie as tie
 
-returns : tie.Need-returns
-returns c = rw (c.before.before.before.enum_told.given.1, ← c.before.before.without-mark.ensures, c.enum-told2.given.1)
+returns : tie.Need-returns-in_default
+returns c = rw (c.in-Raw.is, ← c.without_mark.ensures, c.in_default.is)
 
-returns-2 : tie.Need-returns-2
-returns-2 c = rw (c.before.before.before.enum-told3.given.1, ← c.before.before.without-mark2.ensures, c.enum-told4.given.1)
+returns-2 : tie.Need-returns-in_default-without_mark
+returns-2 c = rw (c.in-Date.is, ← c.without_mark-in-Date.ensures, c.in_default-without_mark.is)
 
-returns-3 : tie.Need-returns-3
-returns-3 c = rw (c.before.before.before.enum-told5.given.1, ← c.before.before.without-mark3.ensures, c.enum-told6.given.1)
+returns-3 : tie.Need-returns-in_default-without_mark-2
+returns-3 c = rw (c.in-Hour.is, ← c.without_mark-in-Hour.ensures, c.in_default-without_mark-2.is)
 
-returns-4 : tie.Need-returns-4
-returns-4 c = rw (c.before.before.before.enum-told7.given.1, ← c.before.before.without-mark4.ensures, c.enum-told8.given.1)
+returns-4 : tie.Need-returns-in_default-without_mark-3
+returns-4 c = rw (c.in-Uniform.is, ← c.without_mark-in-Uniform.ensures, c.in_default-without_mark-3.is)
 
-returns-5 : tie.Need-returns-5
-returns-5 c = rw (c.before.before.before.enum-told9.given.1, ← c.before.before.without-mark5.ensures, c.enum-told10.given.1)
+returns-5 : tie.Need-returns-in_default-without_mark-4
+returns-5 c = rw (c.in-Eu5.is, ← c.without_mark-in-Eu5.ensures, c.in_default-without_mark-4.is)
 
-returns-6 : tie.Need-returns-6
-returns-6 c = rw (c.before.before.before.enum-told11.given.1, ← c.before.before.without-mark6.ensures, c.enum-told12.given.1)
+returns-6 : tie.Need-returns-in_default-without_mark-5
+returns-6 c = rw (c.in-Vic3.is, ← c.without_mark-in-Vic3.ensures, c.in_default-without_mark-5.is)
 
-returns-7 : tie.Need-returns-7
-returns-7 c = rw (c.date.ensures, c.before.before.before.before.before.enum_told.given.1, ← c.before.before.before.before.without-mark.ensures, c.before.before.d.given.1)
+returns-7 : tie.Need-returns-in-Date-without_mark
+returns-7 c = rw (c.date.ensures, c.in-Raw.is, ← c.without_mark.ensures, c.in-Date-without_mark.is)
 
-returns-8 : tie.Need-returns-8
-returns-8 c = rw (c.date2.ensures, c.before.before.before.before.before.enum-told3.given.1, ← c.before.before.before.before.without-mark2.ensures, c.before.before.d2.given.1)
+returns-8 : tie.Need-returns-in-Date-without_mark-2
+returns-8 c = rw (c.date-in-Date.ensures, c.in-Date.is, ← c.without_mark-in-Date.ensures, c.in-Date-without_mark-2.is)
 
-returns-9 : tie.Need-returns-9
-returns-9 c = rw (c.date3.ensures, c.before.before.before.before.before.enum-told5.given.1, ← c.before.before.before.before.without-mark3.ensures, c.before.before.d3.given.1)
+returns-9 : tie.Need-returns-in-Date-without_mark-3
+returns-9 c = rw (c.date-in-Hour.ensures, c.in-Hour.is, ← c.without_mark-in-Hour.ensures, c.in-Date-without_mark-3.is)
 
-returns-10 : tie.Need-returns-10
-returns-10 c = rw (c.date4.ensures, c.before.before.before.before.before.enum-told7.given.1, ← c.before.before.before.before.without-mark4.ensures, c.before.before.d4.given.1)
+returns-10 : tie.Need-returns-in-Date-without_mark-4
+returns-10 c = rw (c.date-in-Uniform.ensures, c.in-Uniform.is, ← c.without_mark-in-Uniform.ensures, c.in-Date-without_mark-4.is)
 
-returns-11 : tie.Need-returns-11
-returns-11 c = rw (c.date5.ensures, c.before.before.before.before.before.enum-told9.given.1, ← c.before.before.before.before.without-mark5.ensures, c.before.before.d5.given.1)
+returns-11 : tie.Need-returns-in-Date-without_mark-5
+returns-11 c = rw (c.date-in-Eu5.ensures, c.in-Eu5.is, ← c.without_mark-in-Eu5.ensures, c.in-Date-without_mark-5.is)
 
-returns-12 : tie.Need-returns-12
-returns-12 c = rw (c.date6.ensures, c.before.before.before.before.before.enum-told11.given.1, ← c.before.before.before.before.without-mark6.ensures, c.before.before.d6.given.1)
+returns-12 : tie.Need-returns-in-Date-without_mark-6
+returns-12 c = rw (c.date-in-Vic3.ensures, c.in-Vic3.is, ← c.without_mark-in-Vic3.ensures, c.in-Date-without_mark-6.is)
 
-pub without-mark-spec : {M : Type 1} → statement M
-without-mark-spec =
+pub without_mark_spec : {M : Type 1} → statement M
+without_mark_spec =
     tie.close
     (tie.spec
     (λ c. search rules)

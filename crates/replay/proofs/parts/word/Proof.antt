@@ -6,14 +6,14 @@ use lib.ListN.{length}
 use Rattle.replay.proofs.parts.word.Statement.{statement}
 use Rattle.replay.proofs.parts.word.Tie as tie
 
-abbrev invariant-loop : tie.invariant-loop
+abbrev invariant-loop : tie.invariant-loop-place
 invariant-loop row at value₀ place₀ value place = value ≤ 18446744073709551615
 
-abbrev decreases-loop : tie.decreases-loop
+abbrev decreases-loop : tie.decreases-loop-place
 decreases-loop row at value₀ place₀ value place = length row - place
 
-pub word-spec : {M : Type 1} → statement M
-word-spec =
+pub word_spec : {M : Type 1} → statement M
+word_spec =
     tie.close
     (tie.spec
     invariant-loop

@@ -5,11 +5,11 @@ use borrow.Author.Rules.{rules}
 use Rattle.replay.proofs.questions.iso.Statement.{statement}
 use Rattle.replay.proofs.questions.iso.Tie as tie
 
-slice-aggregate-iso : tie.Need-slice-aggregate-iso
-slice-aggregate-iso c = simp length-take (omega (arith, c.before.before.before.before.text.ensures))
+slice_aggregate-iso : tie.Need-slice_bounds-iso-end
+slice_aggregate-iso c = simp length-take (omega (arith, c.text-quoted.ensures))
 
-pub iso-spec : {M : Type 1} → statement M
-iso-spec =
+pub iso_spec : {M : Type 1} → statement M
+iso_spec =
     tie.close
     (tie.spec
     (λ c. search rules)
@@ -18,7 +18,7 @@ iso-spec =
     (λ c κs. search rules)
     (λ c κs. search rules)
     (λ c. search rules)
-    slice-aggregate-iso
+    slice_aggregate-iso
     (λ c κs. search rules)
     (λ c. search rules)
     (λ c. search rules))

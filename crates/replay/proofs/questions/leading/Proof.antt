@@ -5,11 +5,11 @@ use borrow.Author.Rules.{rules}
 use Rattle.replay.proofs.questions.leading.Statement.{statement}
 use Rattle.replay.proofs.questions.leading.Tie as tie
 
-slice-aggregate-leading : tie.Need-slice-aggregate-leading
-slice-aggregate-leading c = simp length-take (omega (arith, c.before.before.before.before.text.ensures))
+slice_aggregate-leading : tie.Need-slice_bounds-leading-end
+slice_aggregate-leading c = simp length-take (omega (arith, c.text-quoted.ensures))
 
-pub leading-spec : {M : Type 1} → statement M
-leading-spec =
+pub leading_spec : {M : Type 1} → statement M
+leading_spec =
     tie.close
     (tie.spec
     (λ c. search rules)
@@ -18,7 +18,7 @@ leading-spec =
     (λ c κs. search rules)
     (λ c κs. search rules)
     (λ c. search rules)
-    slice-aggregate-leading
+    slice_aggregate-leading
     (λ c κs. search rules)
     (λ c. search rules)
     (λ c. search rules))

@@ -5,11 +5,11 @@ use borrow.Author.Rules.{rules}
 use Rattle.replay.proofs.questions.text.Statement.{statement}
 use Rattle.replay.proofs.questions.text.Tie as tie
 
-slice-aggregate-text-2 : tie.Need-slice-aggregate-text-2
-slice-aggregate-text-2 c = simp length-take (omega (arith, c.before.before.before.before.text.ensures))
+slice_aggregate-text-2 : tie.Need-slice_bounds-text-end-then-ends
+slice_aggregate-text-2 c = simp length-take (omega (arith, c.text-quoted.ensures))
 
-pub text-spec : {M : Type 1} → statement M
-text-spec =
+pub text_spec : {M : Type 1} → statement M
+text_spec =
     tie.close
     (tie.spec
     (λ c. search rules)
@@ -18,7 +18,7 @@ text-spec =
     (λ c κs. search rules)
     (λ c κs. search rules)
     (λ c. search rules)
-    slice-aggregate-text-2
+    slice_aggregate-text-2
     (λ c κs. search rules)
     (λ c. search rules)
     (λ c. search rules))

@@ -7,17 +7,17 @@ use lib.ListN.{length, length-set}
 use Rattle.replay.proofs.quoted.text.Statement.{statement}
 use Rattle.replay.proofs.quoted.text.Tie as tie
 
-abbrev invariant-loop : tie.invariant-loop
+abbrev invariant-loop : tie.invariant-loop-place
 invariant-loop s at out₀ place₀ length₀ out place length' = (length' ≤ length out) × (length out ≡ length out₀)
 
-abbrev decreases-loop : tie.decreases-loop
+abbrev decreases-loop : tie.decreases-loop-place
 decreases-loop s at out₀ place₀ length₀ out place length' = length s - place
 
-loop-again : tie.Need-loop-preserved invariant-loop decreases-loop
+loop-again : tie.Need-loop-place-preserved invariant-loop decreases-loop
 loop-again c = (simp length-set (omega arith), simp length-set (omega arith))
 
-pub text-spec : {M : Type 1} → statement M
-text-spec =
+pub text_spec : {M : Type 1} → statement M
+text_spec =
     tie.close
     (tie.spec
     invariant-loop

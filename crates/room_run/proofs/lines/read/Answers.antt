@@ -20,4 +20,4 @@ returns-then-row-lt-WORD c =
 
 pub returns : goal.returns
 returns c =
-    let e = text-ends c.args.row.now c.find-text.result c.find-text.ensures.0 in rw (c.worded.ensures, c.worded-found-5.ensures, c.worded-found-4.ensures, c.worded-found-3.ensures, c.worded-found-2.ensures, c.worded-found.ensures, c.place_of-count.ensures, e) (read_by c.args.row.now _ _ c.after.result (rw (← c.byte.ensures) (ne_eqb _ _ c.if-byte-eq35.false)) c.natural-n.ensures c.after.ensures c.byte8-b.ensures)
+    let e = text-ends c.args.row.now c.find-text.result c.find-text.ensures.value in rw (c.worded.ensures, c.worded-found-5.ensures, c.worded-found-4.ensures, c.worded-found-3.ensures, c.worded-found-2.ensures, c.worded-found.ensures, c.place_of-count.ensures, e) (read_by c.args.row.now _ _ c.after.result (rw (← c.byte.ensures) (ne_eqb _ _ c.if-byte-eq35.false)) c.natural-n.ensures c.after.ensures c.byte8-b.ensures)

@@ -3,7 +3,7 @@
 // `compare/README.md` has the format of the script and of what is told.
 #![tactic(auto)]
 
-ghost use Rattle.std.specs.Prelude.{◌≡◌, ◌≤◌, length, IfOk, vec_len};
+ghost use Rattle.std.specs.Prelude.{◌≡◌, ◌≤◌, length, IfOk, OnErr, vec_len};
 
 use crate::lines::Line;
 use book_versions::any;
@@ -65,7 +65,8 @@ fn step<W: Write>(
     size: usize,
 ) -> io::Result<usize>
     requires { size ≤ length room.old }
-    ensures { IfOk result (λ n. n ≤ length room.old) }
+    ensures ok { IfOk result (λ n. n ≤ length room.old) }
+    ensures err { OnErr result (length room.new ≡ length room.old) }
 {
     match lines::read(row) {
         Line::Remark => {
@@ -181,7 +182,8 @@ fn moved<W: Write>(
     byte: u8,
 ) -> io::Result<usize>
     requires { (size ≤ length room.old) × (length target.old ≤ length room.old) }
-    ensures { IfOk result (λ n. n ≤ length room.old) }
+    ensures ok { IfOk result (λ n. n ≤ length room.old) }
+    ensures err { OnErr result (length room.new ≡ length room.old) }
 {
     preparing::fill(target, byte);
     let told = versions::move_book(&room[..size], target, upward);

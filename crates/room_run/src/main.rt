@@ -2,7 +2,7 @@
 // `compare/README.md` has the format of the script and of what is told.
 #![tactic(auto)]
 
-ghost use Rattle.std.specs.Prelude.{◌≡◌, ◌≤◌, length, IfOk, vec_len};
+ghost use Rattle.std.specs.Prelude.{◌≡◌, ◌≤◌, length, IfOk, OnErr, vec_len};
 
 use crate::lines::Line;
 use listing::{Listed, room};
@@ -55,7 +55,8 @@ fn step<W: Write>(
     size: usize,
 ) -> io::Result<usize>
     requires { size ≤ length input.old }
-    ensures { IfOk result (λ n. n ≤ length input.old) }
+    ensures ok { IfOk result (λ n. n ≤ length input.old) }
+    ensures err { OnErr result (length input.new ≡ length input.old) }
 {
     match lines::read(row) {
         Line::Remark => {
@@ -94,7 +95,8 @@ fn put<W: Write>(
     ends: usize,
 ) -> io::Result<usize>
     requires { size ≤ length input.old }
-    ensures { IfOk result (λ n. n ≤ length input.old) }
+    ensures ok { IfOk result (λ n. n ≤ length input.old) }
+    ensures err { OnErr result (length input.new ≡ length input.old) }
 {
     let answer = input::put(&mut input[size..], lines::text(row, from), ends);
     match answer {

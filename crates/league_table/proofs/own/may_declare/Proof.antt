@@ -6,9 +6,6 @@ use borrow.Author.Rules.{rules}
 use Rattle.league_table.proofs.own.may_declare.Statement.{statement}
 use Rattle.league_table.proofs.own.may_declare.Tie as tie
 
-returns : tie.Need-returns-then-own-lt-SHARE
-returns c = let a = c.args in may-share a.n a.b.now a.own a.key (omega arith)
-
 returns-2 : tie.Need-returns-in-At
 returns-2 c =
     let a = c.args in may-over a.n a.b.now a.own a.key c.requires.1 (sym c.in-At.is ∙ c.find-found.ensures)
@@ -19,4 +16,7 @@ returns-3 c =
 
 pub may_declare_spec : {M : Type 1} → statement M
 may_declare_spec =
-    tie.close (tie.spec returns (λ c κs. search rules) (λ c. search rules) (λ c. search rules) returns-2 returns-3)
+    tie.close
+    (tie.spec
+    (λ c. let a = c.args in may-share a.n a.b.now a.own a.key (omega arith))
+    (λ c κs. search rules) (λ c. search rules) (λ c. search rules) returns-2 returns-3)

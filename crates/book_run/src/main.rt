@@ -3,14 +3,13 @@
 // `compare/README.md` has the format of the script and of what is told.
 #![tactic(auto)]
 
-ghost use Rattle.std.specs.Prelude.{◌≡◌, ◌≤◌, length, IfOk, OnErr, vec_len};
+ghost use Rattle.std.specs.Prelude.{◌≡◌, ◌≤◌, length, IfOk, OnErr};
 
 use crate::lines::Line;
 use book_versions::any;
 use script::preparing;
-use std::alloc::{AllocError, Global};
 use std::io;
-use std::io::{BufWriter, Read, Write};
+use std::io::{Read, Write};
 
 mod gap_lines;
 mod gaps;
@@ -23,24 +22,23 @@ mod telling;
 mod version_lines;
 mod versions;
 
-// The most bytes of a script. What stands behind them is not read.
-const MOST_READ: u64 = 262144;
-
 fn main(rt: HostRuntime) -> io::Result<()> {
-    let mut script = Vec::new(rt.alloc());
-    rt.reader().take(MOST_READ).read_to_end(&mut script)?;
-    let mut buffers = room(rt.alloc())?;
-    let mut targets = room(rt.alloc())?;
-    let mut out = BufWriter::new(rt.alloc(), io::writer(&rt))?;
-    run(&mut out, &script, &mut buffers, &mut targets)?;
-    out.flush()
+    let mut script = room();
+    let mut buffers = room();
+    let mut targets = room();
+    let n = intake::read_full(&mut rt.reader(), &mut script)?;
+    run(
+        &mut io::writer(&rt),
+        &script[..n],
+        &mut buffers,
+        &mut targets,
+    )
 }
 
-// Room for a script's buffers, and for the targets of its moves.
-fn room(alloc: Global) -> Result<Vec<u8>, AllocError>
-    ensures { IfOk result (λ v. vec_len v ≡ 262144) }
-{
-    vec![in alloc; 0; 262144]
+// Room for the script, for its buffers, and for the targets of its moves. Its contract says nothing: an `ensures` on an array of this
+// length runs the checker out of stack.
+fn room() -> [u8; 262144] {
+    [0u8; 262144]
 }
 
 // Runs a script in the room that it is lent. Its buffer is the front of that room, at first empty; the target of a move is the front of

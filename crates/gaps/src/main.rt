@@ -4,13 +4,15 @@
 use std::io;
 use std::io::{Read, Write};
 
-// How many bytes the longest book has. What stands behind them is not read.
-const LONGEST_BOOK: u64 = 28677;
+// Room for the longest book. Its contract says nothing: an `ensures` on an array of this length runs the checker out of stack.
+fn room() -> [u8; 28677] {
+    [0u8; 28677]
+}
 
 fn main(rt: HostRuntime) -> io::Result<()> {
-    let mut book = Vec::new(rt.alloc());
-    rt.reader().take(LONGEST_BOOK).read_to_end(&mut book)?;
+    let mut book = room();
     let mut out = [0u8; 714];
-    let n = gap_report::print(&book, &mut out);
-    io::writer(&rt).write_all(&out[..n])
+    let n = intake::read_full(&mut rt.reader(), &mut book)?;
+    let m = gap_report::print(&book[..n], &mut out);
+    io::writer(&rt).write_all(&out[..m])
 }

@@ -3,37 +3,29 @@
 // `compare/README.md` has the format of the script and of what is told.
 #![tactic(auto)]
 
-ghost use Rattle.std.specs.Prelude.{◌≡◌, ◌≤◌, length, IfOk, OnErr, vec_len};
+ghost use Rattle.std.specs.Prelude.{◌≡◌, ◌≤◌, length, IfOk, OnErr};
 
 use crate::lines::Line;
 use script::{preparing, table_answers};
-use std::alloc::{AllocError, Global};
 use std::io;
-use std::io::{BufWriter, Read, Write};
+use std::io::{Read, Write};
 
 mod lines;
 mod operations;
 mod setting;
 mod telling;
 
-// The most bytes of a script. What stands behind them is not read.
-const MOST_READ: u64 = 131072;
-
 fn main(rt: HostRuntime) -> io::Result<()> {
-    let mut script = Vec::new(rt.alloc());
-    rt.reader().take(MOST_READ).read_to_end(&mut script)?;
-    let mut here = room(rt.alloc())?;
-    let mut there = room(rt.alloc())?;
-    let mut out = BufWriter::new(rt.alloc(), io::writer(&rt))?;
-    run(&mut out, &script, &mut here, &mut there)?;
-    out.flush()
+    let mut script = room();
+    let mut here = room();
+    let mut there = room();
+    let n = intake::read_full(&mut rt.reader(), &mut script)?;
+    run(&mut io::writer(&rt), &script[..n], &mut here, &mut there)
 }
 
-// Room for the buffer in use, and for the other one.
-fn room(alloc: Global) -> Result<Vec<u8>, AllocError>
-    ensures { IfOk result (λ v. vec_len v ≡ 131072) }
-{
-    vec![in alloc; 0; 131072]
+// Room for the script, for the buffer in use, and for the other one.
+fn room() -> [u8; 131072] {
+    [0u8; 131072]
 }
 
 // Runs a script in the room that it is lent. Its buffer is the front of that room, at first empty; the other one, and the target of a

@@ -6,7 +6,7 @@
 use codes::Lettered;
 use kinds::Kind;
 use std::io;
-use std::io::{BufWriter, Read, Write};
+use std::io::{Read, Write};
 
 mod answers;
 mod dates;
@@ -18,15 +18,15 @@ mod questions;
 mod quoted;
 mod telling;
 
-// The most bytes of questions. What stands behind them is not read.
-const MOST_READ: u64 = 524288;
-
 fn main(rt: HostRuntime) -> io::Result<()> {
-    let mut input = Vec::new(rt.alloc());
-    rt.reader().take(MOST_READ).read_to_end(&mut input)?;
-    let mut out = BufWriter::new(rt.alloc(), io::writer(&rt))?;
-    run(&mut out, &input)?;
-    out.flush()
+    let mut input = room();
+    let n = intake::read_full(&mut rt.reader(), &mut input)?;
+    run(&mut io::writer(&rt), &input[..n])
+}
+
+// Room for the questions. Its contract says nothing: an `ensures` on an array of this length runs the checker out of stack.
+fn room() -> [u8; 524288] {
+    [0u8; 524288]
 }
 
 fn run<W: Write>(out: &mut W, s: &[u8]) -> io::Result<()> {

@@ -2,36 +2,34 @@
 // `compare/README.md` has the format of the script and of what is told.
 #![tactic(auto)]
 
-ghost use Rattle.std.specs.Prelude.{◌≡◌, ◌≤◌, length, IfOk, OnErr, vec_len};
+ghost use Rattle.std.specs.Prelude.{◌≡◌, ◌≤◌, length, IfOk, OnErr};
 
 use crate::lines::Line;
 use listing::{Listed, room};
-use std::alloc::{AllocError, Global};
 use std::io;
-use std::io::{BufWriter, Read, Write};
+use std::io::{Read, Write};
 
 mod input;
 mod lines;
 mod telling;
 
-// The most bytes of a script. What stands behind them is not read.
-const MOST_READ: u64 = 65536;
-
 fn main(rt: HostRuntime) -> io::Result<()> {
-    let mut script = Vec::new(rt.alloc());
-    rt.reader().take(MOST_READ).read_to_end(&mut script)?;
-    let mut input = room(rt.alloc())?;
-    let mut lent = room(rt.alloc())?;
-    let mut out = BufWriter::new(rt.alloc(), io::writer(&rt))?;
-    run(&mut out, &script, &mut input, &mut lent)?;
-    out.flush()
+    let mut script = script_room();
+    let mut input = room();
+    let mut lent = room();
+    let n = intake::read_full(&mut rt.reader(), &mut script)?;
+    run(&mut io::writer(&rt), &script[..n], &mut input, &mut lent)
 }
 
-// Room for the longest buffer that is lent, and for an input, which is much shorter.
-fn room(alloc: Global) -> Result<Vec<u8>, AllocError>
-    ensures { IfOk result (λ v. vec_len v ≡ 786432) }
-{
-    vec![in alloc; 0; 786432]
+// Room for the script.
+fn script_room() -> [u8; 65536] {
+    [0u8; 65536]
+}
+
+// Room for the longest buffer that is lent, and for an input, which is much shorter. Its contract says nothing: an `ensures` on an array of
+// this length runs the checker out of stack.
+fn room() -> [u8; 786432] {
+    [0u8; 786432]
 }
 
 // Runs a script. The input is the front of the room for it, at first without bytes.

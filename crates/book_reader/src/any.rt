@@ -38,7 +38,7 @@ pub fn after<'a>(reader: AnyBookReader<'a>) -> AnyBookReader<'a>
     }
 }
 
-// What a reader at the place gives next. Its parameters are a slice and a number, so that callers need no proof by hand.
+// What a reader at the place gives next, for a caller who holds a slice and a number.
 pub fn next_at(book: &[u8], place: usize) -> Found
     ensures { found_as result ≡ entry_at (both book.now) book.now place }
 {

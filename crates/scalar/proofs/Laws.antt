@@ -6,12 +6,12 @@ use Prim.Native.Nat.{ℕ, zero, suc, ◌+◌, ◌*◌, ◌-◌, ◌^◌, ◌≤�
 use native.Mathlib.Nat.{pow-succ', one-le-pow, le-mul_of_pos_right, mul_assoc, add-mul, zero-mul, zero-add}
 use native.Mathlib.Omega.{arith}
 use lib.Dec.{leb, eqb, lit<}
-use lib.IntN.{ℤ, pos, nat_abs}
+use lib.IntN.{nat_abs}
 use lib.ListN.{length, get_or, drop}
 use borrow.Author.Tests.{le-leb, lt-leb, eq-eqb, ne_eqb}
 use Rattle.rules.specs.Words.{within, minus}
-use Rattle.rules.specs.Refusals.{Answer, Gives, Refused, ◌then◌, demand, not_text}
-use Rattle.rules.specs.Text.{Read, digits, after_digits, decimal_value, natural, signed, leading}
+use Rattle.rules.specs.Refusals.{Gives, Refused, ◌then◌, demand, not_text}
+use Rattle.rules.specs.Text.{digits, after_digits, decimal_value, natural, signed, leading}
 use Rattle.rules.proofs.Shared.Rests.{here, past}
 use Rattle.scalar.specs.Number.{most63, leading_number, value_from, partial_of, sign_of, number_of}
 

@@ -13,86 +13,70 @@ const TENTH: u64 = 922_337_203_685_477_580;
 
 // A number, and the place of what follows it.
 #[derive(Clone, Copy)]
-pub enum Leading {
-    Number { value: i64, next: usize },
-    Refused,
+pub struct Leading {
+    pub value: i64,
+    pub next: usize,
 }
 
 #[derive(Clone, Copy)]
-enum Partial {
-    Value { value: u64, next: usize },
-    TooLarge,
+struct Partial {
+    value: u64,
+    next: usize,
 }
 
 // The digits from a place on, going on from `start`. Nothing wraps: a value over 63 bits is refused as soon as it is one.
-fn to_u64_partial(s: &[u8], from: usize, start: u64) -> Partial
+fn to_u64_partial(s: &[u8], from: usize, start: u64) -> Option<Partial>
     requires { (from ≤ length s.now) × (start ≤ 9) }
     ensures result_value { partial_as s.now result ≡ partial_of start (drop from s.now) }
     ensures result_in_bounds { (place_of result ≤ length s.now) × (value_of result ≤ most63) }
 {
     let mut value = start;
-    let mut at = from;
-    while at < s.len() {
+    for at in from..s.len() {
         let b = s[at];
-        if b < b'0' {
-            return Partial::Value { value, next: at };
-        }
-        if b'9' < b {
-            return Partial::Value { value, next: at };
+        if !b.is_ascii_digit() {
+            return Some(Partial { value, next: at });
         }
         if TENTH < value {
-            return Partial::TooLarge;
+            return None;
         }
-        value = value * 10 + (b - b'0') as u64;
+        value = value * 10 + u64::from(b - b'0');
         if MOST < value {
-            return Partial::TooLarge;
+            return None;
         }
-        at += 1;
     }
-    Partial::Value { value, next: at }
+    Some(Partial {
+        value,
+        next: s.len(),
+    })
 }
 
 // The number whose first byte gave its sign and its first digit.
-fn number_from(s: &[u8], negative: bool, start: u64) -> Leading
+fn number_from(s: &[u8], negative: bool, start: u64) -> Option<Leading>
     requires { (1 ≤ length s.now) × (start ≤ 9) }
     ensures result_value { leading_as s.now result ≡ number_of negative start (drop 1 s.now) }
     ensures result_in_bounds { next_of result ≤ length s.now }
 {
-    let Partial::Value { value, next } = to_u64_partial(s, 1, start) else {
-        return Leading::Refused;
+    let Partial { value, next } = to_u64_partial(s, 1, start)?;
+    let value = if negative {
+        sign::int64(0, value)
+    } else {
+        sign::int64(value, 0)
     };
-    if negative {
-        return Leading::Number {
-            value: sign::int64(0, value),
-            next,
-        };
-    }
-    Leading::Number {
-        value: sign::int64(value, 0),
-        next,
-    }
+    Some(Leading { value, next })
 }
 
 // A digit, `-` or `+`, then digits; a sign alone is 0. What does not fit 63 bits is refused.
-pub fn to_i64_t(s: &[u8]) -> Leading
+pub fn to_i64_t(s: &[u8]) -> Option<Leading>
     ensures result_value { leading_as s.now result ≡ leading_number s.now }
     ensures result_in_bounds { next_of result ≤ length s.now }
 {
-    if s.len() == 0 {
-        return Leading::Refused;
+    let [b, ..] = s else {
+        return None;
+    };
+    match b {
+        b'-' => number_from(s, true, 0),
+        b'+' => number_from(s, false, 0),
+        b'0'..=b'9' => number_from(s, false, u64::from(b - b'0')),
+        _ => None,
     }
-    let b = s[0];
-    if b == b'-' {
-        return number_from(s, true, 0);
-    }
-    if b == b'+' {
-        return number_from(s, false, 0);
-    }
-    if b < b'0' {
-        return Leading::Refused;
-    }
-    if b'9' < b {
-        return Leading::Refused;
-    }
-    number_from(s, false, (b - b'0') as u64)
 }

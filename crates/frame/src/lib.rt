@@ -8,31 +8,20 @@ ghost use Rattle.rules.specs.Words.{big_bytes};
 ghost use Rattle.rules.specs.Book.{length_size, length_said, new_answer, new_buffer};
 ghost use Rattle.frame.specs.Views.{frame_of, pieces_counted, framed_as, started_as};
 
+use refusals::Refusal;
+
 // The bytes that say the length.
 pub const LENGTH_SIZE: usize = 4;
 
 // The bytes before the first piece: the length's and the version byte.
 pub const HEAD_SIZE: usize = LENGTH_SIZE + 1;
 
-// The number of pieces, or why there is no frame.
+// What a frame depends on: the bytes of a piece, the most pieces and the version byte.
 #[derive(Clone, Copy)]
-pub enum Framed {
-    Pieces(usize),
-    BadLength,
-    BadVersion,
-}
-
-// An empty frame was written, or there was no room.
-#[derive(Clone, Copy)]
-pub enum Started {
-    Written,
-    NoRoom,
-}
-
-fn join4(a: u8, b: u8, c: u8, d: u8) -> usize
-    ensures { result ≡ a * 16777216 + b * 65536 + c * 256 + d }
-{
-    a as usize * 16777216 + b as usize * 65536 + c as usize * 256 + d as usize
+pub struct Frame {
+    pub size: usize,
+    pub most: usize,
+    pub version: u8,
 }
 
 // The length that a frame says of itself.
@@ -40,55 +29,48 @@ pub fn length_said(b: &[u8]) -> usize
     requires { length_size ≤ length b.now }
     ensures { result ≡ length_said b.now }
 {
-    join4(b[0], b[1], b[2], b[3])
+    u32::from_be_bytes([b[0], b[1], b[2], b[3]]) as usize
 }
 
 pub fn put_length(b: &mut [u8], m: usize)
     requires { (length_size ≤ length b.old) × (m < 4294967296) }
     ensures { b.new ≡ sets b.old 0 (big_bytes length_size m) }
 {
-    b[0] = (m / 16777216) as u8;
-    b[1] = (m / 65536 % 256) as u8;
-    b[2] = (m / 256 % 256) as u8;
-    b[3] = (m % 256) as u8;
+    b[..LENGTH_SIZE].copy_from_slice(&(m as u32).to_be_bytes());
 }
 
-// Whether the buffer starts with a frame of pieces of that size, at most so many, of that version; and how many there are.
-pub fn pieces_in(b: &[u8], size: usize, most: usize, version: u8) -> Framed
-    requires { (0 < size) × (1 + most * size < 4294967296) }
-    ensures { framed_as result ≡ pieces_counted (frame_of size most version) b.now }
-{
-    if b.len() < HEAD_SIZE {
-        return Framed::BadLength;
+impl Frame {
+    // Whether the buffer starts with such a frame; and how many pieces it has.
+    pub fn pieces_in(self, b: &[u8]) -> Result<usize, Refusal>
+        requires { (0 < self.size) × (1 + self.most * self.size < 4294967296) }
+        ensures { framed_as result ≡ pieces_counted (frame_of self.size self.most self.version) b.now }
+    {
+        if b.len() < HEAD_SIZE {
+            return Err(Refusal::BadLength);
+        }
+        let said = length_said(b);
+        if said < 1 || 1 + self.most * self.size < said || b.len() < said + LENGTH_SIZE {
+            return Err(Refusal::BadLength);
+        }
+        if b[LENGTH_SIZE] != self.version {
+            return Err(Refusal::BadVersion);
+        }
+        if !(said - 1).is_multiple_of(self.size) {
+            return Err(Refusal::BadLength);
+        }
+        Ok((said - 1) / self.size)
     }
-    let said = length_said(b);
-    if said < 1 {
-        return Framed::BadLength;
-    }
-    if 1 + most * size < said {
-        return Framed::BadLength;
-    }
-    if b.len() < said + LENGTH_SIZE {
-        return Framed::BadLength;
-    }
-    if b[LENGTH_SIZE] != version {
-        return Framed::BadVersion;
-    }
-    if (said - 1) % size != 0 {
-        return Framed::BadLength;
-    }
-    Framed::Pieces((said - 1) / size)
 }
 
 // Writes an empty frame: its length counts the version byte alone. The bytes after it stay.
-pub fn new(b: &mut [u8], version: u8) -> Started
+pub fn new(b: &mut [u8], version: u8) -> Result<(), Refusal>
     ensures result_value { started_as result ≡ new_answer b.old }
     ensures b_after { b.new ≡ new_buffer version b.old }
 {
     if b.len() < HEAD_SIZE {
-        return Started::NoRoom;
+        return Err(Refusal::NoRoom);
     }
     b[LENGTH_SIZE] = version;
     put_length(b, 1);
-    Started::Written
+    Ok(())
 }

@@ -10,138 +10,92 @@ ghost use Rattle.dotted.specs.Views.{taken_as, hour_as, parts_as};
 
 // A number of one or two digits, and the place of what follows it.
 #[derive(Clone, Copy)]
-pub enum Taken {
-    Value { value: u8, next: usize },
-    Nothing,
-}
-
-// The hour, 0 where the text has none.
-#[derive(Clone, Copy)]
-enum Hour {
-    Value(u8),
-    NotText,
+pub struct Taken {
+    pub value: u8,
+    pub next: usize,
 }
 
 // Month, day and hour, as they are written: none is tested against the calendar.
 #[derive(Clone, Copy)]
-pub enum Parts {
-    Fields { month: u8, day: u8, hour: u8 },
-    NotText,
+pub struct Parts {
+    pub month: u8,
+    pub day: u8,
+    pub hour: u8,
 }
 
 // After a first digit: a second, or none.
 fn second_digit(s: &[u8], at: usize, first: u8) -> Taken
     requires { first ≤ 9 }
-    ensures { taken_as s.now result ≡ Gives (second_digit first (drop at s.now)) }
+    ensures { taken_as s.now (Some result) ≡ Gives (second_digit first (drop at s.now)) }
 {
-    if s.len() <= at {
-        return Taken::Value {
+    match s.get(at) {
+        Some(b) if b.is_ascii_digit() => Taken {
+            value: first * 10 + (*b - b'0'),
+            next: at + 1,
+        },
+        _ => Taken {
             value: first,
             next: at,
-        };
-    }
-    let b = s[at];
-    if b < b'0' {
-        return Taken::Value {
-            value: first,
-            next: at,
-        };
-    }
-    if b'9' < b {
-        return Taken::Value {
-            value: first,
-            next: at,
-        };
-    }
-    Taken::Value {
-        value: first * 10 + (b - b'0'),
-        next: at + 1,
+        },
     }
 }
 
 // One or two digits.
-pub fn one_or_two(s: &[u8], at: usize) -> Taken
+pub fn one_or_two(s: &[u8], at: usize) -> Option<Taken>
     ensures { taken_as s.now result ≡ one_or_two (drop at s.now) }
 {
-    if s.len() <= at {
-        return Taken::Nothing;
+    match s.get(at) {
+        Some(b) if b.is_ascii_digit() => Some(second_digit(s, at + 1, *b - b'0')),
+        _ => None,
     }
-    let b = s[at];
-    if b < b'0' {
-        return Taken::Nothing;
-    }
-    if b'9' < b {
-        return Taken::Nothing;
-    }
-    second_digit(s, at + 1, b - b'0')
 }
 
 // A dot, and one or two digits.
-fn dotted_number(s: &[u8], at: usize) -> Taken
+fn dotted_number(s: &[u8], at: usize) -> Option<Taken>
     ensures { taken_as s.now result ≡ (after_dot (drop at s.now) then one_or_two) }
 {
-    if s.len() <= at {
-        return Taken::Nothing;
-    }
-    if s[at] != b'.' {
-        return Taken::Nothing;
+    if *s.get(at)? != b'.' {
+        return None;
     }
     one_or_two(s, at + 1)
 }
 
 // After the dot that follows the day: an hour that does not start with 0, and nothing more. The dot itself has been read, so the
 // equation puts it back.
-fn hour_at(s: &[u8], at: usize) -> Hour
+fn hour_at(s: &[u8], at: usize) -> Option<u8>
     ensures { hour_as result ≡ hour_after (byte "." ∷ drop at s.now) }
 {
-    if s.len() <= at {
-        return Hour::NotText;
+    if *s.get(at)? == b'0' {
+        return None;
     }
-    if s[at] == b'0' {
-        return Hour::NotText;
+    let hour = one_or_two(s, at)?;
+    if hour.next < s.len() {
+        return None;
     }
-    let Taken::Value { value, next } = one_or_two(s, at) else {
-        return Hour::NotText;
-    };
-    if next < s.len() {
-        return Hour::NotText;
-    }
-    Hour::Value(value)
+    Some(hour.value)
 }
 
-// After the day: nothing, or a dot and an hour.
-fn hour_after(s: &[u8], at: usize) -> Hour
+// After the day: the hour, 0 where nothing follows; or a dot and an hour.
+fn hour_after(s: &[u8], at: usize) -> Option<u8>
     ensures { hour_as result ≡ hour_after (drop at s.now) }
 {
-    if s.len() <= at {
-        return Hour::Value(0);
+    match s.get(at) {
+        None => Some(0),
+        Some(b'.') => hour_at(s, at + 1),
+        Some(_) => None,
     }
-    if s[at] == b'.' {
-        return hour_at(s, at + 1);
-    }
-    Hour::NotText
 }
 
 // Month, day and perhaps hour, from a place to the end of the text.
-pub fn dotted_part(s: &[u8], at: usize) -> Parts
+pub fn dotted_part(s: &[u8], at: usize) -> Option<Parts>
     ensures { (y : ℤ) → parts_as y result ≡ dotted_part y (drop at s.now) }
 {
-    let Taken::Value {
-        value: month,
-        next: i,
-    } = dotted_number(s, at)
-    else {
-        return Parts::NotText;
-    };
-    let Taken::Value {
-        value: day,
-        next: j,
-    } = dotted_number(s, i)
-    else {
-        return Parts::NotText;
-    };
-    let Hour::Value(hour) = hour_after(s, j) else {
-        return Parts::NotText;
-    };
-    Parts::Fields { month, day, hour }
+    let month = dotted_number(s, at)?;
+    let day = dotted_number(s, month.next)?;
+    let hour = hour_after(s, day.next)?;
+    Some(Parts {
+        month: month.value,
+        day: day.value,
+        hour,
+    })
 }

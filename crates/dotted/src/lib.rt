@@ -65,7 +65,8 @@ fn dotted_number(s: &[u8], at: usize) -> Option<Taken>
 fn hour_at(s: &[u8], at: usize) -> Option<u8>
     ensures { hour_as result ≡ hour_after (byte "." ∷ drop at s.now) }
 {
-    if *s.get(at)? == b'0' {
+    let zero_first = *s.get(at)? == b'0';
+    if zero_first {
         return None;
     }
     let hour = one_or_two(s, at)?;

@@ -2,19 +2,18 @@
 -- Assumes nothing.
 use mathlib.Core.Path.{◌≡◌, refl}
 use Prim.Native.Nat.{ℕ}
+use Rattle.std.specs.Prelude.{Option, Some, None}
+use Rattle.std.specs.declared.cmp.Ordering.{Ordering}
+use Rattle.std.specs.declared.cmp.Ordering.TheVariants.{Less, Equal, Greater}
 use Rattle.rules.specs.Kinds.{Fields, Stored}
 use Rattle.rules.specs.Kinds as K
 use Rattle.rules.specs.Days as D
-use Rattle.rules.specs.Refusals.{not_of_kind}
+use Rattle.rules.specs.Refusals.{Answer, not_of_kind}
 use Rattle.rules.proofs.OnRefusals.Determined.{Determines, DeterminesEach, determined, determined-at, back_one}
 use Rattle.kinds.specs.declared.Kind.{Kind}
 use Rattle.kinds.specs.declared.Kind.TheVariants as C
 use Rattle.kinds.specs.declared.ExpandedRawDate.{ExpandedRawDate}
 use Rattle.kinds.specs.declared.Packed.{Packed}
-use Rattle.kinds.specs.declared.Made.TheVariants as M
-use Rattle.kinds.specs.declared.Opened.TheVariants as O
-use Rattle.kinds.specs.declared.Ordered.{Ordered}
-use Rattle.kinds.specs.declared.Ordered.TheVariants as R
 use Rattle.kinds.specs.Views.{kind_of, made_as, opened_as, ordered_as}
 
 -- the code's structs of what `rules` has: the way back of `bits_of` and `fields_of`
@@ -37,20 +36,28 @@ pub kind-back : (k : Kind) → kind_back (kind_of k) ≡ k
 kind-back k = elim k as (λ (k : Kind). kind_back (kind_of k) ≡ k) [ C.Raw ↦ refl | C.Date ↦ refl | C.Hour ↦ refl | C.Uniform ↦ refl | C.Eu5 ↦ refl | C.Vic3 ↦ refl ]
 
 pub answer-determined : (n : ℕ) → Determines (made_as n)
-answer-determined n = determined (made_as n) (back_one (λ d. M.Date (packed_of d)) M.None) (λ r. elim r as (λ k. (back_one (λ d. M.Date (packed_of d)) M.None) ((made_as n) k) ≡ k) [ M.Date d ↦ refl | M.None ↦ refl ])
+answer-determined n = determined (made_as n) (back_one (λ d. Some (packed_of d)) None) (λ r. elim r as (λ k. (back_one (λ d. Some (packed_of d)) None) ((made_as n) k) ≡ k) [ Some d ↦ refl | None ↦ refl ])
 
 pub answers-determined : DeterminesEach made_as
 answers-determined = determined-at made_as not_of_kind (answer-determined not_of_kind)
 
 pub opened-determined : Determines opened_as
-opened-determined = determined opened_as (back_one (λ f. O.Fields (expanded_of f)) O.NotOfKind)
-    (λ r. elim r as (λ k. (back_one (λ f. O.Fields (expanded_of f)) O.NotOfKind) (opened_as k) ≡ k) [ O.Fields f ↦ refl | O.NotOfKind ↦ refl ])
+opened-determined = determined opened_as (back_one (λ f. Some (expanded_of f)) None)
+    (λ r. elim r as (λ k. (back_one (λ f. Some (expanded_of f)) None) (opened_as k) ≡ k) [ Some f ↦ refl | None ↦ refl ])
 
-abbrev order_back : D.Order → Ordered
-order_back D.Before = R.Before
-order_back D.Same = R.Same
-order_back D.After = R.After
+abbrev order_back : D.Order → Option Ordering
+order_back D.Before = Some Less
+order_back D.Same = Some Equal
+order_back D.After = Some Greater
+
+abbrev ordered_back : Answer D.Order → Option Ordering
+ordered_back = back_one order_back None
+
+ordered-back : (r : Option Ordering) → ordered_back (ordered_as r) ≡ r
+ordered-back (Some Less) = refl
+ordered-back (Some Equal) = refl
+ordered-back (Some Greater) = refl
+ordered-back None = refl
 
 pub ordered-determined : Determines ordered_as
-ordered-determined = determined ordered_as (back_one order_back R.NotOfKind)
-    (λ r. elim r as (λ k. (back_one order_back R.NotOfKind) (ordered_as k) ≡ k) [ R.Before ↦ refl | R.Same ↦ refl | R.After ↦ refl | R.NotOfKind ↦ refl ])
+ordered-determined = determined ordered_as ordered_back ordered-back

@@ -1,7 +1,7 @@
 -- What a test of month, day and hour decides, for a year of 16 bits. Assumes nothing.
 use mathlib.Core.Path.{◌≡◌, refl, sym, ap, ◌∙◌}
-use mathlib.Core.Bool.{Bool, true, false, ◌&&◌, and-false}
-use Prim.Native.Nat.{ℕ, ◌+◌, ◌*◌, ◌/◌, ◌%◌, ◌≤◌, ◌<◌}
+use mathlib.Core.Bool.{Bool, true, false, and-false}
+use Prim.Native.Nat.{ℕ, ◌*◌, ◌/◌, ◌≤◌, ◌<◌}
 use native.Mathlib.Omega.{arith}
 use borrow.Author.Tests.{le-leb, lt-ltb, le-ltb, ltb-true, ltb-false}
 use lib.Dec.{ltb}
@@ -10,16 +10,21 @@ use mir.Syntax.{w16}
 use mir.Val.{to_z, of_z, SFits}
 use mir.Facts.{to_z-of_z}
 use Rattle.sign.proofs.Laws.{yes_le, one_side}
-use Rattle.sign.proofs.Bits.{Within, fits-tells}
+use Rattle.sign.proofs.Bits.{fits-tells}
 use Rattle.rules.specs.Words.{minus, fits16}
-use Rattle.rules.specs.Refusals.{Answer, Gives, Refused, ◌then◌, demand, given, not_of_kind}
+use Rattle.rules.specs.Refusals.{Answer, Gives, Refused, demand, given, not_of_kind}
 use Rattle.rules.specs.Kinds.{Kind, Fields, Stored, days_in, hour_fits, field_set_hour, from_fields, store, fits_kind, of_kind, made, mark_of, mark_allowed, unpacked, handed, of_dates}
 use Rattle.rules.specs.Days.{Order, Same, by_z, by_n, order}
-use Rattle.rules.proofs.OnKinds.KindLaws.{Fit, fit}
+use Rattle.rules.proofs.OnKinds.KindLaws.{fit}
 use Rattle.rules.proofs.OnDays.OrderLaws.{day-small, hour-small}
 use Rattle.rules.proofs.OnKinds.PackLaws.{word-alone, handed-by, handed-tells}
-use Rattle.kinds.specs.declared.Made.{Made}
-use Rattle.kinds.specs.Views.{made_as}
+use Rattle.std.specs.Prelude.{Option, Some}
+use Rattle.std.specs.Int.Signed.{lt_z}
+use Rattle.std.proofs.Common.{rules}
+use Rattle.std.specs.Ordering.{nat_cmp, int_cmp}
+use Rattle.std.specs.declared.cmp.Ordering.TheVariants.{Equal}
+use Rattle.kinds.specs.declared.Packed.{Packed}
+use Rattle.kinds.specs.Views.{made_as, ordered_as}
 
 pub year-fits : (y : ℤ) → SFits w16 y → fits16 y ≡ true
 year-fits y f =
@@ -99,9 +104,30 @@ order-words d e =
         split true p = let h = ltb-true a b p in lt-ltb (a * 4) (b * 4) (omega arith)
         split false p = let h = ltb-false a b p in le-ltb (a * 4) (b * 4) (omega arith)
 
+-- the order by the library's comparison: by the years, where they differ, and else by the words
+module _ (a b : ℤ) (next : Order) where
+  pub unequal-years : (int_cmp a b ≡ Equal → ⊥) → ordered_as (Some (int_cmp a b)) ≡ Gives (by_z a b next)
+  unequal-years differ = split (lt_z a b) (lt_z b a) refl refl
+    where
+      split : (s t : Bool) → lt_z a b ≡ s → lt_z b a ≡ t → ordered_as (Some (int_cmp a b)) ≡ Gives (by_z a b next)
+      split true t p q = rw p
+      split false true p q = rw (p, q)
+      split false false p q = absurd (differ (rw (p, q)))
+
+  pub equal-years : int_cmp a b ≡ Equal → by_z a b next ≡ next
+  equal-years same = split (lt_z a b) (lt_z b a) refl refl
+    where
+      split : (s t : Bool) → lt_z a b ≡ s → lt_z b a ≡ t → by_z a b next ≡ next
+      split true t p q = search (rules, rw p at same)
+      split false true p q = search (rules, rw (p, q) at same)
+      split false false p q = rw (p, q)
+
+pub by-words : (v w : ℕ) → ordered_as (Some (nat_cmp v w)) ≡ Gives (by_n v w Same)
+by-words v w = grind arith
+
 -- ---- a kind's answer, from the maker's: the year comes to it as 16 bits, the hour is the one that the kind's field sets have
 
-pub made-answers : (k : Kind) (f : Fields) {date r : Made} → field_set_hour k f.hour ≡ f.hour → SFits w16 f.year →
+pub made-answers : (k : Kind) (f : Fields) {date r : Option Packed} → field_set_hour k f.hour ≡ f.hour → SFits w16 f.year →
     ((n : ℕ) → made_as n date ≡ store (made k n (record { year = to_z w16 (of_z w16 f.year); month = f.month; day = f.day; hour = f.hour }))) →
     date ≡ r → made_as not_of_kind r ≡ store (from_fields k f)
 unfolding from_fields

@@ -3,9 +3,12 @@ use mathlib.Core.Path.{◌≡◌, refl, sym}
 use mathlib.Core.Bool.{Bool, true, false}
 use Prim.Native.Nat.{ℕ, ◌≤◌, ◌<◌}
 use lib.IntN.{ℤ, sub_ℕ}
+use Rattle.std.specs.Prelude.{Result, Ok, Err, None, OkIff}
+use Rattle.std.specs.Result.{result_ok}
+use Rattle.std.proofs.Common.{rules}
 use Rattle.sign.specs.Halves.{up, dn, Halved}
 use Rattle.sign.proofs.Laws.{as-sub}
-use Rattle.rules.specs.Refusals.{Answer, Gives, Refused, demand}
+use Rattle.rules.specs.Refusals.{Gives, Refused, demand}
 use Rattle.rules.specs.Kinds.{Kind, Fields, of_kind, made}
 use Rattle.rules.proofs.OnKinds.KindLaws.{fit}
 use Rattle.rules.proofs.OnDays.OrderLaws.{day-small, hour-small}
@@ -40,3 +43,8 @@ no-date k n f never = inner (of_kind k f) refl
     inner : (t : Bool) → of_kind k f ≡ t → demand t n (Gives f) ≡ Refused n
     inner true p = absurd (never (narrow k f p))
     inner false p = refl
+
+-- a number that a conversion refuses lies outside the type's range
+pub outside : {T E : Type 0} (P : Type 0) (v : T) (r : Result T E) → OkIff r P v → result_ok r ≡ None → P → ⊥
+outside P v (Ok x) told none p = search rules
+outside P v (Err e) told none p = told p

@@ -1,5 +1,7 @@
 -- The code's types as those of `rules`. Assumes nothing.
-use Rattle.std.specs.Prelude.{ℕ}
+use Rattle.std.specs.Prelude.{ℕ, Option, Some, None}
+use Rattle.std.specs.declared.cmp.Ordering.{Ordering}
+use Rattle.std.specs.declared.cmp.Ordering.TheVariants.{Less, Equal, Greater}
 use Rattle.rules.specs.Refusals.{Answer, Gives, Refused, not_of_kind}
 use Rattle.rules.specs.Kinds as K
 use Rattle.rules.specs.Days as D
@@ -7,12 +9,6 @@ use Rattle.kinds.specs.declared.Kind.{Kind}
 use Rattle.kinds.specs.declared.Kind.TheVariants as C
 use Rattle.kinds.specs.declared.ExpandedRawDate.{ExpandedRawDate}
 use Rattle.kinds.specs.declared.Packed.{Packed}
-use Rattle.kinds.specs.declared.Made.{Made}
-use Rattle.kinds.specs.declared.Made.TheVariants as M
-use Rattle.kinds.specs.declared.Opened.{Opened}
-use Rattle.kinds.specs.declared.Opened.TheVariants as O
-use Rattle.kinds.specs.declared.Ordered.{Ordered}
-use Rattle.kinds.specs.declared.Ordered.TheVariants as R
 
 abbrev pub kind_of : Kind → K.Kind
 kind_of C.Raw = K.kR
@@ -30,16 +26,16 @@ abbrev pub bits_of : Packed → K.Stored
 bits_of p = record { year = p.year; word = p.word }
 
 -- a date made, or the refusal n
-abbrev pub made_as : ℕ → Made → Answer K.Stored
-made_as n (M.Date p) = Gives (bits_of p)
-made_as n M.None = Refused n
+abbrev pub made_as : ℕ → Option Packed → Answer K.Stored
+made_as n (Some p) = Gives (bits_of p)
+made_as n None = Refused n
 
-abbrev pub opened_as : Opened → Answer K.Fields
-opened_as (O.Fields e) = Gives (fields_of e)
-opened_as O.NotOfKind = Refused not_of_kind
+abbrev pub opened_as : Option ExpandedRawDate → Answer K.Fields
+opened_as (Some e) = Gives (fields_of e)
+opened_as None = Refused not_of_kind
 
-abbrev pub ordered_as : Ordered → Answer D.Order
-ordered_as R.Before = Gives D.Before
-ordered_as R.Same = Gives D.Same
-ordered_as R.After = Gives D.After
-ordered_as R.NotOfKind = Refused not_of_kind
+abbrev pub ordered_as : Option Ordering → Answer D.Order
+ordered_as (Some Less) = Gives D.Before
+ordered_as (Some Equal) = Gives D.Same
+ordered_as (Some Greater) = Gives D.After
+ordered_as None = Refused not_of_kind

@@ -1,12 +1,12 @@
 // What the six kinds share: the kind, a date's fields, its packed word, and the one maker and the one opener over the kind.
 #![tactic(auto)]
 
-ghost use Rattle.std.specs.Prelude.{◌≡◌, ℕ, ◌≤◌, ◌<◌};
+ghost use Rattle.std.specs.Prelude.{◌≡◌, ℕ, ◌≤◌, ◌<◌, Some};
 ghost use Rattle.rules.specs.Kinds.{days_in, hour_fits, fits_kind, made, field_set_hour, from_fields, settled_hour, settled, unpacked, handed, of_dates, store_with, store, without_mark};
 ghost use Rattle.rules.specs.Refusals.{Gives, given, not_of_kind};
 ghost use Rattle.rules.specs.Days.{order};
 ghost use Rattle.kinds.specs.HourBits.{hour_bits};
-ghost use Rattle.kinds.specs.Views.{kind_of, bits_of, made_as, opened_as, ordered_as};
+ghost use Rattle.kinds.specs.Views.{kind_of, fields_of, bits_of, made_as, opened_as, ordered_as};
 
 pub use word::{
     GUESSED_MARK, NO_MARK, day_of, fields_of, hour_of, is_guessed, mark_of, month_of, pack,
@@ -14,8 +14,10 @@ pub use word::{
 
 mod word;
 
+use std::cmp::Ordering;
+
 // R raw, D plain, H hourly, U uniform, E EU5, V Victoria 3.
-#[derive(Clone, Copy)]
+#[derive(Clone, Copy, PartialEq, Eq)]
 pub enum Kind {
     Raw,
     Date,
@@ -26,7 +28,7 @@ pub enum Kind {
 }
 
 // A date where each component is a full data type.
-#[derive(Clone, Copy)]
+#[derive(Clone, Copy, PartialEq, Eq)]
 pub struct ExpandedRawDate {
     pub year: i16,
     pub month: u8,
@@ -35,33 +37,10 @@ pub struct ExpandedRawDate {
 }
 
 // A date as it is stored: the year, and month × 4096 + day × 128 + hour × 4 beside it, with its mark added. Any bits can be handed in.
-#[derive(Clone, Copy)]
+#[derive(Clone, Copy, PartialEq, Eq)]
 pub struct Packed {
     pub year: i16,
     pub word: u16,
-}
-
-// A date, or none of that kind.
-#[derive(Clone, Copy)]
-pub enum Made {
-    Date(Packed),
-    None,
-}
-
-// The fields of a date handed in, or none of that kind.
-#[derive(Clone, Copy)]
-pub enum Opened {
-    Fields(ExpandedRawDate),
-    NotOfKind,
-}
-
-// The order of two dates handed in, or that one of them is not of the kind.
-#[derive(Clone, Copy)]
-pub enum Ordered {
-    Before,
-    Same,
-    After,
-    NotOfKind,
 }
 
 // The greatest day of a month. The month's length is worked out for every kind: the kind then only chooses, which costs no jump.
@@ -71,11 +50,8 @@ fn days_in(kind: Kind, month: u8) -> u8
     let length = julian::month_length(month);
     match kind {
         Kind::Raw => 31,
-        Kind::Date => length,
-        Kind::Hour => length,
         Kind::Uniform => 30,
-        Kind::Eu5 => length,
-        Kind::Vic3 => length,
+        Kind::Date | Kind::Hour | Kind::Eu5 | Kind::Vic3 => length,
     }
 }
 
@@ -124,20 +100,13 @@ fn fits_kind(kind: Kind, month: u8, day: u8, hour: u8) -> bool
 }
 
 // A date of the kind with these fields, or none.
-pub fn make(kind: Kind, year: i16, month: u8, day: u8, hour: u8) -> Made
-    ensures { (n : ℕ) → made_as n result ≡ store (made (kind_of kind) n (record { year = year; month = month; day = day; hour = hour })) }
+pub fn make(kind: Kind, fields: ExpandedRawDate) -> Option<Packed>
+    ensures { (n : ℕ) → made_as n result ≡ store (made (kind_of kind) n (fields_of fields)) }
 {
-    if fits_kind(kind, month, day, hour) {
-        let fields = ExpandedRawDate {
-            year,
-            month,
-            day,
-            hour,
-        };
-        Made::Date(pack(NO_MARK, fields))
-    } else {
-        Made::None
+    if fits_kind(kind, fields.month, fields.day, fields.hour) {
+        return Some(pack(NO_MARK, fields));
     }
+    None
 }
 
 // The hour of a field set: those of R, H and V carry one; those of D, U and E carry none, and theirs is 0.
@@ -145,43 +114,26 @@ fn field_set_hour(kind: Kind, hour: u32) -> u32
     ensures { result ≡ field_set_hour (kind_of kind) hour }
 {
     match kind {
-        Kind::Raw => hour,
-        Kind::Date => 0,
-        Kind::Hour => hour,
-        Kind::Uniform => 0,
-        Kind::Eu5 => 0,
-        Kind::Vic3 => hour,
+        Kind::Raw | Kind::Hour | Kind::Vic3 => hour,
+        Kind::Date | Kind::Uniform | Kind::Eu5 => 0,
     }
 }
 
 // A date of these numbers. One that its own type in a date does not hold is of no date: it is refused, and never cut to size.
-fn make_wide(kind: Kind, year: i32, month: u32, day: u32, hour: u32) -> Made
+fn make_wide(kind: Kind, year: i32, month: u32, day: u32, hour: u32) -> Option<Packed>
     ensures { made_as not_of_kind result ≡ store (made (kind_of kind) not_of_kind (record { year = year; month = month; day = day; hour = hour })) }
 {
-    let halves = sign::halves32(year);
-    let up = halves.up;
-    let dn = halves.dn;
-    if 32767 < up {
-        return Made::None;
-    }
-    if 32768 < dn {
-        return Made::None;
-    }
-    if 255 < month {
-        return Made::None;
-    }
-    if 255 < day {
-        return Made::None;
-    }
-    if 255 < hour {
-        return Made::None;
-    }
-    let year = sign::int16(up, dn);
-    make(kind, year, month as u8, day as u8, hour as u8)
+    let fields = ExpandedRawDate {
+        year: i16::try_from(year).ok()?,
+        month: u8::try_from(month).ok()?,
+        day: u8::try_from(day).ok()?,
+        hour: u8::try_from(hour).ok()?,
+    };
+    make(kind, fields)
 }
 
 // A date of a field set, of any numbers.
-pub fn from_fields(kind: Kind, year: i32, month: u32, day: u32, hour: u32) -> Made
+pub fn from_fields(kind: Kind, year: i32, month: u32, day: u32, hour: u32) -> Option<Packed>
     ensures { made_as not_of_kind result ≡ store (from_fields (kind_of kind) (record { year = year; month = month; day = day; hour = hour })) }
 {
     make_wide(kind, year, month, day, field_set_hour(kind, hour))
@@ -192,114 +144,75 @@ fn settled_hour(kind: Kind, hour: u8) -> u8
     ensures { result ≡ settled_hour (kind_of kind) hour }
 {
     match kind {
-        Kind::Raw => hour,
-        Kind::Date => hour,
-        Kind::Hour => hour,
-        Kind::Uniform => hour,
-        Kind::Eu5 => {
-            if hour == 23 {
-                return 22;
-            }
-            hour
-        }
-        Kind::Vic3 => hour,
+        Kind::Eu5 if hour == 23 => 22,
+        _ => hour,
     }
 }
 
 // A date of the kind with the fields that a text or a number has, or none.
-pub fn settle(kind: Kind, year: i16, month: u8, day: u8, hour: u8) -> Made
-    ensures { (n : ℕ) → made_as n result ≡ store (settled (kind_of kind) n (record { year = year; month = month; day = day; hour = hour })) }
+pub fn settle(kind: Kind, fields: ExpandedRawDate) -> Option<Packed>
+    ensures { (n : ℕ) → made_as n result ≡ store (settled (kind_of kind) n (fields_of fields)) }
 {
-    make(kind, year, month, day, settled_hour(kind, hour))
+    let hour = settled_hour(kind, fields.hour);
+    make(kind, ExpandedRawDate { hour, ..fields })
 }
 
 // The same where the month and the day are of the kind, with this mark: the hour alone is tested.
-pub fn settle_day(kind: Kind, mark: u16, year: i16, month: u8, day: u8, hour: u8) -> Made
+pub fn settle_day(kind: Kind, mark: u16, fields: ExpandedRawDate) -> Option<Packed>
     requires mark_bound { mark < 4 }
-    requires le_month { (1 ≤ month) × (month ≤ 12) × (1 ≤ day) × (day ≤ days_in (kind_of kind) month) }
-    ensures { (n : ℕ) → made_as n result ≡ store_with mark (settled (kind_of kind) n (record { year = year; month = month; day = day; hour = hour })) }
+    requires le_month { (1 ≤ fields.month) × (fields.month ≤ 12) × (1 ≤ fields.day) × (fields.day ≤ days_in (kind_of kind) fields.month) }
+    ensures { (n : ℕ) → made_as n result ≡ store_with mark (settled (kind_of kind) n (fields_of fields)) }
 {
-    let settled = settled_hour(kind, hour);
-    if hour_fits(kind, settled) {
-        let fields = ExpandedRawDate {
-            year,
-            month,
-            day,
-            hour: settled,
-        };
-        Made::Date(pack(mark, fields))
-    } else {
-        Made::None
+    let hour = settled_hour(kind, fields.hour);
+    if hour_fits(kind, hour) {
+        return Some(pack(mark, ExpandedRawDate { hour, ..fields }));
     }
+    None
 }
 
 // The fields of a date handed in. Every operation on a date goes through here first.
-pub fn unpack(kind: Kind, date: Packed) -> Opened
+pub fn unpack(kind: Kind, date: Packed) -> Option<ExpandedRawDate>
     ensures { opened_as result ≡ handed (kind_of kind) (bits_of date) }
 {
     if word::mark_allowed(mark_of(date)) {
         let fields = fields_of(date);
         if fits_kind(kind, fields.month, fields.day, fields.hour) {
-            return Opened::Fields(fields);
+            return Some(fields);
         }
     }
-    Opened::NotOfKind
+    None
 }
 
 // Whether a date handed in is one of the kind.
 pub fn is_of_kind(kind: Kind, date: Packed) -> bool
     ensures { result ≡ given (handed (kind_of kind) (bits_of date)) }
 {
-    let opened = unpack(kind, date);
-    match opened {
-        Opened::Fields(_) => true,
-        Opened::NotOfKind => false,
-    }
+    unpack(kind, date).is_some()
 }
 
 // A date handed in, handed out again without its mark.
-pub fn without_mark(kind: Kind, date: Packed) -> Made
+pub fn without_mark(kind: Kind, date: Packed) -> Option<Packed>
     ensures { made_as not_of_kind result ≡ without_mark (kind_of kind) (bits_of date) }
 {
-    let opened = unpack(kind, date);
-    match opened {
-        Opened::Fields(fields) => Made::Date(pack(NO_MARK, fields)),
-        Opened::NotOfKind => Made::None,
-    }
+    let fields = unpack(kind, date)?;
+    Some(pack(NO_MARK, fields))
 }
 
 // Year, then packed word: the word without its mark, which is no field.
-pub fn order_of(first: Packed, second: Packed) -> Ordered
-    ensures { ordered_as result ≡ Gives (order (unpacked (bits_of first)) (unpacked (bits_of second))) }
+pub fn order_of(first: Packed, second: Packed) -> Ordering
+    ensures { ordered_as (Some result) ≡ Gives (order (unpacked (bits_of first)) (unpacked (bits_of second))) }
 {
-    let a = first.year;
-    let b = second.year;
-    if a < b {
-        return Ordered::Before;
+    match first.year.cmp(&second.year) {
+        Ordering::Equal => (first.word / 4).cmp(&(second.word / 4)),
+        unequal => unequal,
     }
-    if b < a {
-        return Ordered::After;
-    }
-    let v = first.word / 4;
-    let w = second.word / 4;
-    if v < w {
-        return Ordered::Before;
-    }
-    if w < v {
-        return Ordered::After;
-    }
-    Ordered::Same
 }
 
 // The order of two dates of one kind.
-pub fn compare(kind: Kind, first: Packed, second: Packed) -> Ordered
+pub fn compare(kind: Kind, first: Packed, second: Packed) -> Option<Ordering>
     ensures { ordered_as result ≡ of_dates (kind_of kind) (bits_of first) (bits_of second) (λ f g. Gives (order f g)) }
 {
-    if is_of_kind(kind, first) {
-        if is_of_kind(kind, second) {
-            return order_of(first, second);
-        }
-        return Ordered::NotOfKind;
-    }
-    Ordered::NotOfKind
+    unpack(kind, first)?;
+    unpack(kind, second)?;
+    Some(order_of(first, second))
 }

@@ -1,6 +1,5 @@
 -- `kinds::fits_kind` meets its contract: each test is one of the definition's. Assumes nothing.
 use borrow.Author.Rules.{rules}
-use native.Mathlib.Omega.{arith}
 use borrow.Author.Tests.{le-leb, lt-leb}
 use Rattle.rules.specs.Kinds.{days_in, fits_kind}
 use Rattle.kinds.specs.Views.{kind_of}

@@ -10,20 +10,6 @@ ghost use Rattle.codes.specs.Views.{lettered_as, coded_as, date_number};
 
 use kinds::{Kind, Packed};
 
-// A kind by its letter.
-#[derive(Clone, Copy)]
-pub enum Lettered {
-    Kind(Kind),
-    None,
-}
-
-// A kind by its code.
-#[derive(Clone, Copy)]
-pub enum Coded {
-    Kind(Kind),
-    None,
-}
-
 pub fn letter(kind: Kind) -> u8
     ensures { result ≡ letter (kind_of kind) }
 {
@@ -37,17 +23,17 @@ pub fn letter(kind: Kind) -> u8
     }
 }
 
-pub fn kind_of_letter(b: u8) -> Lettered
+pub fn kind_of_letter(b: u8) -> Option<Kind>
     ensures { lettered_as result ≡ kind_of_letter b }
 {
     match b {
-        b'R' => Lettered::Kind(Kind::Raw),
-        b'D' => Lettered::Kind(Kind::Date),
-        b'H' => Lettered::Kind(Kind::Hour),
-        b'U' => Lettered::Kind(Kind::Uniform),
-        b'E' => Lettered::Kind(Kind::Eu5),
-        b'V' => Lettered::Kind(Kind::Vic3),
-        _ => Lettered::None,
+        b'R' => Some(Kind::Raw),
+        b'D' => Some(Kind::Date),
+        b'H' => Some(Kind::Hour),
+        b'U' => Some(Kind::Uniform),
+        b'E' => Some(Kind::Eu5),
+        b'V' => Some(Kind::Vic3),
+        _ => None,
     }
 }
 
@@ -65,17 +51,17 @@ pub fn kind_code(kind: Kind) -> u8
 }
 
 // The whole number is looked at: 258 is no kind's code, though its low byte is one.
-pub fn kind_of_code(code: u32) -> Coded
+pub fn kind_of_code(code: u32) -> Option<Kind>
     ensures { coded_as result ≡ kind_of_code code }
 {
     match code {
-        1 => Coded::Kind(Kind::Raw),
-        2 => Coded::Kind(Kind::Date),
-        3 => Coded::Kind(Kind::Hour),
-        4 => Coded::Kind(Kind::Uniform),
-        5 => Coded::Kind(Kind::Eu5),
-        6 => Coded::Kind(Kind::Vic3),
-        _ => Coded::None,
+        1 => Some(Kind::Raw),
+        2 => Some(Kind::Date),
+        3 => Some(Kind::Hour),
+        4 => Some(Kind::Uniform),
+        5 => Some(Kind::Eu5),
+        6 => Some(Kind::Vic3),
+        _ => None,
     }
 }
 

@@ -68,20 +68,13 @@ pub fn kind_of_code(code: u32) -> Option<Kind>
 pub fn twos_complement(year: i16) -> u16
     ensures { result ≡ twos_complement year }
 {
-    if year < 0 {
-        // !year is -year - 1
-        return 65535 - (!year) as u16;
-    }
-    year as u16
+    year.cast_unsigned()
 }
 
 pub fn year_of_twos(twos: u16) -> i16
     ensures { result ≡ year_of_twos twos }
 {
-    if twos < 32768 {
-        return sign::int16(twos as u64, 0);
-    }
-    sign::int16(twos as u64, 65536)
+    twos.cast_signed()
 }
 
 // The number of a date, from its bits.

@@ -1,24 +1,26 @@
 -- The bytes of a record: where they stand, and what they are by the tests that the code makes; and the records of a checked book.
 -- Over the size of a record. Assumes nothing.
-use mathlib.Core.Path.{◌≡◌, refl, sym, ap, subst, ◌∙◌}
+use mathlib.Core.Path.{◌≡◌, refl, sym, ap, ◌∙◌}
 use mathlib.Core.Bool.{Bool, true, false}
-use mathlib.Core.List.{List, [], ◌∷◌, ◌++◌, append_assoc}
+use Rattle.std.specs.Prelude.{Option, Some, None, ok_or}
+use mathlib.Core.List.{List, [], ◌∷◌, append_assoc}
 use Prim.Native.Nat.{ℕ, ◌+◌, ◌*◌, ◌-◌, ◌/◌, ◌≤◌, ◌<◌}
 use native.Mathlib.Nat.{add-zero}
 use native.Mathlib.Omega.{arith}
 use borrow.Author.Tests.{le-leb, lt-leb, eqb-true}
-use lib.Dec.{T, leb, eqb}
+use lib.Dec.{eqb}
 use lib.IntN.{ℤ}
 use lib.ListN.{length, get_or, take, drop, length-drop}
-use lib.Seq.{sets, sets-eq, get_or-take, get_or-drop, length-take-le, take-length, drop-drop}
-use borrow.Rule.Slice.PartMut.{put_mid, mid_of}
+use lib.Seq.{sets, sets-eq, get_or-take, get_or-drop, length-take-le, drop-drop}
+use borrow.Rule.Slice.PartMut.{put_mid}
 use Rattle.rules.specs.Words.{big_endian}
-use Rattle.rules.specs.Refusals.{Answer, Gives, Refused, RefusedAt, ◌then◌, demand, given, not_of_kind, no_record}
+use Rattle.rules.specs.Refusals.{Answer, Gives, Refused, RefusedAt, ◌then◌, demand, given, not_of_kind, bad_record, no_record}
 use Rattle.rules.specs.Kinds as K
 use Rattle.rules.specs.Kinds.{Stored, mark_of, no_mark, handed}
-use Rattle.rules.specs.Book.{Format, head_size, kind_code, kind_of_code, year_of_twos, unmarked_date, entry_from, length_said, check, version1, entry_at, entry_for, append_answer, append_buffer}
+use Rattle.rules.specs.Book.{Format, sound_by, framed, all_pass, records, pick, head_size, kind_code, kind_of_code, year_of_twos, unmarked_date, entry_from, length_said, check, record_at, version1, entry_at, entry_for, append_answer, append_buffer}
 use Rattle.rules.proofs.Shared.Rests as R
-use Rattle.rules.proofs.OnSpelling.WriteLaws.{tail-lent, tail-back}
+use Rattle.rules.proofs.OnBook.AppendAnswers as A
+use Rattle.rules.proofs.OnBook.AppendAnswers.{Appends}
 use Rattle.rules.proofs.OnBook.FrameLaws.{Sensible}
 use Rattle.rules.proofs.OnBook.BookLaws.{entry-by, Counted, counted, checked, ends-inside, record-here, record-none, sound-here}
 use Rattle.rules.proofs.OnBook.EntryLaws.{entry-long, entry-for}
@@ -29,8 +31,14 @@ use Rattle.kinds.specs.declared.Kind.{Kind}
 use Rattle.kinds.specs.declared.Packed.{Packed}
 use Rattle.kinds.specs.Views.{kind_of, bits_of}
 use Rattle.rules.proofs.OnKinds.PackLaws.{handed-by, unmarked}
-use Rattle.frame.specs.Views.{frame_of}
-use Rattle.book.specs.Views.{date_size, least_size, field_record_size, stored_by, kept_by, entry_with, field_sized, entry_sized, book_of, in_bits, bytes_of}
+use Rattle.refusals.specs.declared.Refusal.{Refusal}
+use Rattle.refusals.specs.Answers.{refusal_as}
+use Rattle.refusals.proofs.Determined.{refused}
+use Rattle.frame.specs.Views.{frame_of, pieces_counted}
+use Rattle.frame.proofs.Counts.{counted_is}
+use Rattle.frame.proofs.Refusing.{passed-on, refused-before}
+use Rattle.book.specs.declared.Record.{Record}
+use Rattle.book.specs.Views.{date_size, least_size, field_record_size, stored_by, kept_by, entry_with, field_sized, entry_sized, book_of, in_bits, bytes_of, slot_as, found_as}
 
 -- ---- a record's bytes, where it stands in a list
 
@@ -83,13 +91,12 @@ module _ (s : List ℕ) (at size : ℕ) (inside : at + size ≤ length s) where
       let e : at + 1 + 1 ≡ at + 2 = omega arith in
       rw (le-leb field_record_size size h, two_at 1 (omega arith), e, two (get_or s (at + 1) 0) (get_or s (at + 2) 0))
 
--- ---- a record's bytes, where a copy into `&mut s[at..]` puts them
+-- ---- a record's bytes, where a copy into `&mut s[at..at + n]` puts them
 
-pub put-at : (s v l : List ℕ) (at : ℕ) → at + length v ≤ length s →
-    l ≡ take (length v) v ++ drop (length v) (mid_of at (length s - at) s) → put_mid at (length s - at) s l ≡ sets s at v
-put-at s v l at h e =
-    let is : l ≡ v ++ drop (at + length v) s = e ∙ rw (tail-lent s at, take-length, drop-drop) in
-    tail-back s l at ∙ rw is (sym (append_assoc (take at s) v (drop (at + length v) s)) ∙ sym (sets-eq v s at h))
+pub put-at : (s v : List ℕ) (at : ℕ) → at + length v ≤ length s → put_mid at (at + length v - at) s v ≡ sets s at v
+put-at s v at h =
+    let e : at + length v - at ≡ length v = omega arith in
+    rw (e, drop-drop) (sym (append_assoc (take at s) v (drop (at + length v) s)) ∙ sym (sets-eq v s at h))
 
 -- ---- what a record is, by the tests that the code makes
 
@@ -198,8 +205,38 @@ module _ (size most version : ℕ) (plain : Bool) (some : least_size ≤ size) (
         pub entry_here : entry_at format s i ≡ entry_sized size plain here
         entry_here = entry-by format s i (record-here format sensible s n has i l)
 
-        pub no-bad-one : Refused not_of_kind ≡ entry_sized size plain here → ⊥
-        no-bad-one e = subst T (sym (ap given e ∙ sound-here format sensible s n has i l)) tt
+        pub sound_here : given (entry_sized size plain here) ≡ true
+        sound_here = sound-here format sensible s n has i l
+
+  -- ---- what is refused is refused all the way
+
+  module _ (s : List ℕ) (e : Refusal) where
+    -- by the frame
+    pub frame-refused : pieces_counted (frame_of size most version) s ≡ refusal_as e → check format s ≡ refusal_as e
+    unfolding check records
+    frame-refused h =
+        rw (refused-before e (framed format.frame s) length (sym (counted_is format.frame s) ∙ h), passed-on e (all_pass bad_record (sound_by format)))
+        (passed-on e _)
+
+    -- by the check
+    module _ (h : check format s ≡ refusal_as e) where
+      pub entry-refused : (i : ℕ) → entry_at format s i ≡ refusal_as e
+      unfolding check record_at entry_at
+      entry-refused i =
+          rw (refused-before e (records format s) length h, passed-on e (λ (rs : List (List ℕ)). pick rs i)) (passed-on e _)
+
+      pub append-refused : (r : List ℕ) → Appends format r s (refusal_as e) s
+      append-refused r = by (refusal_as e) h (refused ℕ e)
+        where
+          by : (x : Answer ℕ) → check format s ≡ x → given x ≡ false → Appends format r s x s
+          by (Gives m) g u = cc
+          by (Refused m) g u = A.append-refused format r s m g
+          by (RefusedAt m place) g u = A.append-bad format r s m place g
+
+-- a record that is found, whatever the refusal would have been
+pub found-or : (x : Option Record) (e : Refusal) (a : Answer FieldEntry) → slot_as x ≡ a → given a ≡ true → found_as (ok_or x e) ≡ a
+found-or (Some r) e a p g = p
+found-or None e a p g = let no : false ≡ true = ap given p ∙ g in cc
 
 -- ---- version 1, from its records told as those of version 2
 

@@ -1,6 +1,6 @@
 -- The format of a book from the size of its records, and the code's answers as those of `rules`. Assumes nothing.
-use Rattle.std.specs.Prelude.{ℕ, ◌+◌, ◌*◌, ◌-◌, Bool, cond, not, ◌&&◌, ◌||◌, List, leb, eqb, get_or}
-use Rattle.rules.specs.Refusals.{Answer, Gives, Refused, RefusedAt, ◌then◌, demand, given, not_of_kind, bad_length, bad_version, bad_record, no_room, no_record, guessed_date}
+use Rattle.std.specs.Prelude.{ℕ, ◌+◌, ◌*◌, ◌-◌, Bool, cond, not, ◌&&◌, ◌||◌, List, leb, eqb, get_or, Option, Result}
+use Rattle.rules.specs.Refusals.{Answer, Gives, ◌then◌, demand, given, not_of_kind}
 use Rattle.rules.specs.Kinds as K
 use Rattle.rules.specs.Book as B
 use Rattle.requests.specs.Second.{FieldEntry, no_field, stored_from, field_in}
@@ -9,14 +9,9 @@ use Rattle.kinds.specs.declared.Kind.{Kind}
 use Rattle.kinds.specs.declared.Packed.{Packed}
 use Rattle.kinds.specs.Views.{kind_of, bits_of}
 use Rattle.frame.specs.Views.{frame_of}
-use Rattle.book.specs.declared.Checked.{Checked}
-use Rattle.book.specs.declared.Checked.TheVariants as C
-use Rattle.book.specs.declared.Found.{Found}
-use Rattle.book.specs.declared.Found.TheVariants as F
-use Rattle.book.specs.declared.Appended.{Appended}
-use Rattle.book.specs.declared.Appended.TheVariants as A
-use Rattle.book.specs.declared.slots.Slot.{Slot}
-use Rattle.book.specs.declared.slots.Slot.TheVariants as S
+use Rattle.refusals.specs.declared.Refusal.{Refusal}
+use Rattle.refusals.specs.Answers.{result_as, option_as}
+use Rattle.book.specs.declared.Record.{Record}
 
 -- the bytes of a date: two of its year, two of its word
 abbrev pub date_size : ℕ
@@ -69,28 +64,18 @@ stored_by y₁ y₀ w₁ w₀ = record { year = B.year_of_twos (y₁ * 256 + y�
 abbrev pub bytes_of : Kind → Packed → List ℕ
 bytes_of k d = B.entry_bytes (kind_of k) (bits_of d)
 
-abbrev pub slot_as : Slot → Answer FieldEntry
-slot_as (S.Record k field d) = Gives (record { kind = kind_of k; field = field; date = bits_of d })
-slot_as S.None = Refused not_of_kind
+-- a record by its kind, its field number and the bits of its date
+abbrev pub record_as : Record → FieldEntry
+record_as r = record { kind = kind_of r.kind; field = r.field; date = bits_of r.date }
 
-abbrev pub checked_as : Checked → Answer ℕ
-checked_as (C.Records n) = Gives n
-checked_as C.BadLength = Refused bad_length
-checked_as C.BadVersion = Refused bad_version
-checked_as (C.BadRecord place) = RefusedAt bad_record place
+abbrev pub slot_as : Option Record → Answer FieldEntry
+slot_as = option_as not_of_kind record_as
 
-abbrev pub found_as : Found → Answer FieldEntry
-found_as (F.Record k field d) = Gives (record { kind = kind_of k; field = field; date = bits_of d })
-found_as F.BadLength = Refused bad_length
-found_as F.BadVersion = Refused bad_version
-found_as (F.BadRecord place) = RefusedAt bad_record place
-found_as F.NoRecord = Refused no_record
+abbrev pub checked_as : Result ℕ Refusal → Answer ℕ
+checked_as = result_as (λ n. n)
 
-abbrev pub appended_as : Appended → Answer ℕ
-appended_as (A.At n) = Gives n
-appended_as A.NotOfKind = Refused not_of_kind
-appended_as A.BadLength = Refused bad_length
-appended_as A.BadVersion = Refused bad_version
-appended_as (A.BadRecord place) = RefusedAt bad_record place
-appended_as A.NoRoom = Refused no_room
-appended_as A.GuessedDate = Refused guessed_date
+abbrev pub found_as : Result Record Refusal → Answer FieldEntry
+found_as = result_as record_as
+
+abbrev pub appended_as : Result ℕ Refusal → Answer ℕ
+appended_as = result_as (λ n. n)

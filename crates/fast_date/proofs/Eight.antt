@@ -1,5 +1,5 @@
 -- What the parse of eight digits tells, and what the fast path's answer tells. Assumes nothing.
-use mathlib.Core.Path.{◌≡◌, refl, sym, ap, ◌∙◌}
+use mathlib.Core.Path.{◌≡◌, refl, ap}
 use mathlib.Core.Bool.{Bool, true, false, cond}
 use mathlib.Core.List.{List}
 use Prim.Native.Nat.{ℕ, ◌/◌, ◌%◌, ◌<◌}
@@ -7,16 +7,16 @@ use native.Mathlib.Omega.{arith}
 use mir.Syntax.{w16}
 use mir.Val.{to_z}
 use mir.ValLaws.{to_z_pos}
+use Rattle.std.specs.Prelude.{Option}
 use Rattle.rules.specs.Refusals.{Answer, not_text}
 use Rattle.rules.specs.Kinds.{kD, Stored, settled, store}
 use Rattle.rules.specs.Text.{decimal_value, read_text}
 use Rattle.util.specs.Word.{all_digits}
 use Rattle.util.specs.Parse.{parsed}
-use Rattle.util.specs.declared.Parsed.{Parsed}
 use Rattle.util.specs.declared.Parsed.TheVariants.{Value, NotDigits}
 use Rattle.kinds.specs.Views.{made_as}
-use Rattle.kinds.specs.declared.Made.{Made}
-use Rattle.fast_date.specs.Fast.{fast_shape, quickly, Quick, Answers, Silent, eight}
+use Rattle.kinds.specs.declared.Packed.{Packed}
+use Rattle.fast_date.specs.Fast.{fast_shape, quickly, Answers, Silent, eight}
 
 pub parsed-some : (bs : List ℕ) (v : ℕ) → Value v ≡ parsed bs → (all_digits bs ≡ true) × (decimal_value bs ≡ v)
 parsed-some bs v e = split (all_digits bs) e
@@ -33,13 +33,13 @@ parsed-none bs e = split (all_digits bs) e
     split false p = refl
 
 -- the date made of eight digits' value, whose year comes to the maker as 16 bits, is their answer
-pub eight-told : (bs : List ℕ) (v : ℕ) {made r : Made} → Value v ≡ parsed bs → v < 100000000 →
+pub eight-told : (bs : List ℕ) (v : ℕ) (made : Option Packed) → Value v ≡ parsed bs → v < 100000000 →
     ((n : ℕ) → made_as n made ≡ store (settled kD n (record { year = to_z w16 (v / 10000); month = v / 100 % 100; day = v % 100; hour = 0 }))) →
-    made ≡ r → Answers (made_as not_text r) ≡ eight bs
+    Answers (made_as not_text made) ≡ eight bs
 unfolding eight
-eight-told bs v is-v small is_made same =
+eight-told bs v made is-v small is_made =
     let t = parsed-some bs v is-v in
-    rw (t.0, t.1) (ap Answers (ap (made_as not_text) (sym same) ∙ (rw (to_z_pos w16 (v / 10000) (omega arith)) at (is_made not_text))))
+    rw (t.0, t.1) (ap Answers (rw (to_z_pos w16 (v / 10000) (omega arith)) at (is_made not_text)))
 
 -- what the fast path answers is what the plain reader answers
 pub quick-is : (s : List ℕ) (a : Answer Stored) → Answers a ≡ quickly s → a ≡ store (read_text kD s)

@@ -1,17 +1,16 @@
 -- The four shapes of D's fast path: a text of one answers as its eight digits do. Assumes nothing.
 use mathlib.Core.Path.{◌≡◌, refl, sym, ap, ◌∙◌}
-use mathlib.Core.Bool.{Bool, true, false, cond, ◌&&◌, ◌||◌, and-false, or-false, and-eq-true_iff}
+use mathlib.Core.Bool.{Bool, true, false, cond, ◌||◌, and-false, or-false, and-eq-true_iff}
 use mathlib.Core.List.{List, [], ◌∷◌}
-use Prim.Native.Nat.{ℕ, ◌+◌, ◌*◌, ◌-◌, ◌/◌, ◌%◌, ◌≤◌, ◌<◌}
+use Prim.Native.Nat.{ℕ, ◌+◌, ◌*◌, ◌-◌, ◌/◌, ◌%◌, ◌≤◌}
 use native.Mathlib.Omega.{arith}
 use borrow.Author.Tests.{leb-true, ne_eqb, le-leb}
 use lib.Dec.{leb, eqb, lit≤}
 use lib.IntN.{ℤ, pos}
 use lib.ListN.{length}
-use Rattle.rules.specs.Words.{within}
-use Rattle.rules.specs.Refusals.{Answer, Gives, ◌then◌, demand, not_text}
-use Rattle.rules.specs.Kinds.{kD, Fields, Stored, settled, store}
-use Rattle.rules.specs.Text.{Read, is_digit, digits, after_digits, decimal_value, leading, second_digit, one_or_two, after_dot, hour_after, dotted_part, shape_allowed, text_limit, text_fields, read_text}
+use Rattle.rules.specs.Refusals.{Gives, ◌then◌, not_text}
+use Rattle.rules.specs.Kinds.{kD, settled, store}
+use Rattle.rules.specs.Text.{is_digit, digits, after_digits, decimal_value, leading, second_digit, one_or_two, after_dot, hour_after, dotted_part, shape_allowed, text_limit, text_fields, read_text}
 use Rattle.rules.proofs.OnKinds.PackLaws.{same-fields}
 use Rattle.util.specs.Word.{all_digits}
 use Rattle.fast_date.specs.Fast.{alike, fast_shape, quickly, Quick, Answers, Silent, eight_date, eight}

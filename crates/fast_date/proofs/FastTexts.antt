@@ -3,15 +3,15 @@ use mathlib.Core.Path.{◌≡◌, refl, sym, ap, subst, ◌∙◌}
 use mathlib.Core.Logic.{◌⊎◌, inl, inr, ⊎_elim}
 use mathlib.Core.Bool.{Bool, true, false, ◌&&◌, ◌||◌, and-false, or-false}
 use mathlib.Core.List.{List, [], ◌∷◌}
-use Prim.Native.Nat.{ℕ, ◌≤◌, ◌<◌}
+use Prim.Native.Nat.{ℕ}
 use native.Mathlib.Nat.{le_of_eq}
 use native.Mathlib.Omega.{arith}
 use borrow.Author.Tests.{ne_eqb}
 use lib.Dec.{T, eqb}
-use lib.ListN.{length, get_or, take, drop}
+use lib.ListN.{length, get_or}
 use lib.Seq.{take_all}
 use Rattle.util.proofs.Bytes.{listed, listed-is}
-use Rattle.fast_date.specs.Fast.{alike, fast_shape, quickly, Quick, Silent, eight}
+use Rattle.fast_date.specs.Fast.{alike, fast_shape, quickly, Silent, eight}
 use Rattle.fast_date.proofs.FastLaws.{shape-8, shape-9a, shape-9b, shape-10}
 
 -- a text of n bytes, byte by byte

@@ -1,14 +1,13 @@
 -- Document 01: "D's fast path for YYYY.M.D, YYYY.MM.D, YYYY.M.DD and YYYY.MM.DD": exactly when it answers, and what. Assumes nothing.
-use Rattle.std.specs.Prelude.{ℕ, ◌/◌, ◌%◌, Bool, true, false, cond, ◌&&◌, ◌||◌, List, [], ◌∷◌, eqb, pos, length}
+use Rattle.std.specs.Prelude.{ℕ, ◌/◌, ◌%◌, Bool, true, false, cond, ◌&&◌, ◌||◌, List, [], ◌∷◌, eqb, pos, length, Option, Some, None}
 use Prim.Native.String.{String}
 use Rattle.rules.specs.Words.{byte, bytes}
-use Rattle.rules.specs.Refusals.{Answer, Gives, Refused, not_text}
+use Rattle.rules.specs.Refusals.{Answer, not_text}
 use Rattle.rules.specs.Kinds.{kD, Fields, Stored, settled, store}
 use Rattle.rules.specs.Text.{is_digit, decimal_value, read_text}
 use Rattle.util.specs.Word.{all_digits}
-use Rattle.kinds.specs.Views.{bits_of}
-use Rattle.fast_date.specs.declared.Fast.{Fast}
-use Rattle.fast_date.specs.declared.Fast.TheVariants as F
+use Rattle.kinds.specs.declared.Packed.{Packed}
+use Rattle.kinds.specs.Views.{made_as}
 
 -- a dot of the shape is a dot, a letter of it is a digit
 abbrev pub stands : ℕ → ℕ → Bool
@@ -35,10 +34,9 @@ pub data Quick : Type 0 where
 unfoldable pub quickly : List ℕ → Quick
 quickly s = cond (fast_shape s) (Answers (store (read_text kD s))) Silent
 
-abbrev pub quick : Fast → Quick
-quick (F.Date p) = Answers (Gives (bits_of p))
-quick F.NotText = Answers (Refused not_text)
-quick F.Silent = Silent
+abbrev pub quick : Option (Option Packed) → Quick
+quick (Some read) = Answers (made_as not_text read)
+quick None = Silent
 
 -- eight bytes YYYYMMDD as a date, if all are digits
 abbrev pub eight_date : ℕ → Fields

@@ -1,13 +1,13 @@
 -- Numbers that cannot pass the guess, by their hour or by the first year that can pass. Assumes nothing.
 use mathlib.Core.Path.{◌≡◌, refl, sym, subst}
-use mathlib.Core.Bool.{Bool, true, false, ◌&&◌, and-false}
-use Prim.Native.Nat.{ℕ, ◌%◌, ◌<◌}
+use mathlib.Core.Bool.{Bool, true, false, and-false}
+use Prim.Native.Nat.{◌%◌, ◌<◌}
 use native.Mathlib.Omega.{arith}
 use lib.Dec.{T}
 use lib.IntN.{ℤ, pos, nat_abs}
 use lib.Signed.{lt_z, le_z}
 use borrow.Author.Tests.{ne_eqb}
-use Rattle.sign.specs.Halves.{up, dn}
+use Rattle.sign.specs.Halves.{up}
 use Rattle.sign.proofs.Laws.{ints, one_side, no_lt, no_le}
 use Rattle.rules.specs.Words.{minus}
 use Rattle.rules.specs.Refusals.{Gives, Refused, ◌then◌, demand, not_number}

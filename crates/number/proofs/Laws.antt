@@ -8,21 +8,23 @@ use lib.IntN.{ℤ, nat_abs, sub_ℕ}
 use mir.Syntax.{w32}
 use mir.Val.{to_z, of_z, SFits}
 use mir.Facts.{to_z-of_z}
-use Rattle.sign.specs.Halves.{up, dn, Halved}
+use Rattle.sign.specs.Halves.{Halved}
 use Rattle.sign.proofs.Laws.{same, ints, one_side}
-use Rattle.rules.specs.Refusals.{Answer, Gives, Refused, ◌then◌, demand, given, not_number, not_of_kind}
+use Rattle.rules.specs.Refusals.{Answer, Gives, Refused, demand, given, not_number, not_of_kind}
 use Rattle.rules.specs.Calendar.{lengths, month_length, walk, month_day, day_of_year}
 use Rattle.rules.specs.Kinds.{Kind, kR, kD, kH, kU, kE, kV, Fields, Stored, days_in, store_guess, store, handed, of_date}
 use Rattle.rules.specs.Numbers.{on_day, hour_of, day_of, year_of, has_fields, number_fields, reads_numbers, decoded, read_number, guesses, guessed, guess_number, straight_at, straight, writes_numbers, written_hour, write_number}
 use Rattle.rules.proofs.OnRefusals.Determined.{back_by}
 use Rattle.rules.proofs.OnCalendar.CalendarLaws.{IsDay, is-day, length-small}
-use Rattle.rules.proofs.OnKinds.KindLaws.{Fit, fit, month-fits}
+use Rattle.rules.proofs.OnKinds.KindLaws.{fit, month-fits}
 use Rattle.rules.proofs.OnKinds.PackLaws.{handed-tells, lacking}
 use Rattle.rules.proofs.OnNumbers.NumberBack.{writer}
 use Rattle.rules.proofs.OnNumbers.NumberLaws.{Stands, fields_at, no_fields}
-use Rattle.number.specs.declared.Read.{Read}
+use Rattle.std.specs.Prelude.{Option}
+use Rattle.kinds.specs.declared.ExpandedRawDate.{ExpandedRawDate}
+use Rattle.kinds.specs.declared.Packed.{Packed}
 use Rattle.number.specs.declared.Guess.{Guess}
-use Rattle.number.specs.Views.{read_as, guessed_as}
+use Rattle.number.specs.Views.{numbered_as, read_as, guessed_as}
 
 module _ (n : ℕ) {s : ℤ} {u d : ℕ} (h : Halved 2147483647 s u d) where
   pub none : (Stands u d → ⊥) → Refused n ≡ number_fields n s
@@ -90,6 +92,11 @@ guess-reads kV e = refl
 
 -- ---- the full decoder and the guess, by their tests
 
+-- what the code tells of a number's fields is what it has
+pub fields-told : {s : ℤ} {r q : Option ExpandedRawDate} → SFits w32 s →
+    ((n : ℕ) → numbered_as n r ≡ number_fields n (to_z w32 (of_z w32 s))) → r ≡ q → number_fields not_number s ≡ numbered_as not_number q
+fields-told fits is same = sym (rw (to_z-of_z fits) at (is not_number)) ∙ ap (numbered_as not_number) same
+
 module _ (k : Kind) (s : ℤ) where
   pub read_none : reads_numbers k ≡ true → number_fields not_number s ≡ Refused not_number → read_number k s ≡ Refused not_number
   unfolding read_number
@@ -136,10 +143,10 @@ module _ (k : Kind) (d : Stored) where
 
 -- ---- a kind's answer, from the core's: the number comes to it as 32 bits
 
-pub read-answers : (k : Kind) {s : ℤ} {read r : Read} → SFits w32 s →
+pub read-answers : (k : Kind) {s : ℤ} {read r : Option Packed} → SFits w32 s →
     read_as read ≡ store (read_number k (to_z w32 (of_z w32 s))) → read ≡ r → read_as r ≡ store (read_number k s)
 read-answers k fits is same = ap read_as (sym same) ∙ (rw (to_z-of_z fits) at is)
 
-pub guess-answers : (k : Kind) {s : ℤ} {guess r : Guess} → SFits w32 s →
+pub guess-answers : (k : Kind) {s : ℤ} {guess r : Option Guess} → SFits w32 s →
     guessed_as guess ≡ store_guess (guess_number k (to_z w32 (of_z w32 s))) → guess ≡ r → guessed_as r ≡ store_guess (guess_number k s)
 guess-answers k fits is same = ap guessed_as (sym same) ∙ (rw (to_z-of_z fits) at is)

@@ -8,36 +8,14 @@ ghost use Rattle.rules.specs.Numbers.{number_fields, reads_numbers, decoded_hour
 ghost use Rattle.kinds.specs.Views.{kind_of, fields_of, made_as, bits_of};
 ghost use Rattle.number.specs.Views.{numbered_as, hour_in, read_as, guessed_as, written_as};
 
-use kinds::{ExpandedRawDate, GUESSED_MARK, Kind, Made, NO_MARK, Opened, Packed};
+use kinds::{ExpandedRawDate, GUESSED_MARK, Kind, NO_MARK, Packed};
 
 mod narrow;
 
-// The fields of a number, or none.
-#[derive(Clone, Copy)]
-pub enum Numbered {
-    Fields(ExpandedRawDate),
-    None,
-}
-
-// What the full decoder answers. It is not the guess's answer, so that neither is taken for the other.
-#[derive(Clone, Copy)]
-pub enum Read {
-    Date(Packed),
-    NotNumber,
-}
-
-// What the guess answers.
-#[derive(Clone, Copy)]
-pub enum Guess {
-    Date(Packed),
-    NotNumber,
-}
-
-// The number of a date.
-#[derive(Clone, Copy)]
-pub enum Written {
-    Number(i32),
-    NotOfKind,
+// What the guess answers. It is not the full decoder's answer, so that neither is taken for the other.
+#[derive(Clone, Copy, PartialEq, Eq)]
+pub struct Guess {
+    pub date: Packed,
 }
 
 // The numbers that have fields lie in -243,247,680 to 330,847,679.
@@ -48,7 +26,7 @@ const LEAST_BELOW: u64 = 243_247_680;
 // Hour, day of year and year, each truncated toward zero; a negative hour or day refuses, and so does a year of over 16 bits. So a
 // number below 0 is read only at multiples of 8760, as the 1 January of a year before -5000. These are rare: read apart, they cost the
 // others no division.
-pub fn number_fields(s: i32) -> Numbered
+pub fn number_fields(s: i32) -> Option<ExpandedRawDate>
     ensures by_index { (n : ℕ) → numbered_as n result ≡ number_fields n s }
     ensures result_bound { hour_in result < 24 }
 {
@@ -57,12 +35,12 @@ pub fn number_fields(s: i32) -> Numbered
     let d = h.dn;
     if 0 < d {
         if 0 < d % 8760 {
-            return Numbered::None;
+            return None;
         }
         if LEAST_BELOW < d {
-            return Numbered::None;
+            return None;
         }
-        return Numbered::Fields(ExpandedRawDate {
+        return Some(ExpandedRawDate {
             year: sign::int16(0, d / 8760 + 5000),
             month: 1,
             day: 1,
@@ -70,10 +48,10 @@ pub fn number_fields(s: i32) -> Numbered
         });
     }
     if GREATEST < u {
-        return Numbered::None;
+        return None;
     }
     let on = julian::month_day_from_julian((u / 24 % 365) as u16);
-    Numbered::Fields(ExpandedRawDate {
+    Some(ExpandedRawDate {
         year: sign::int16(u / 8760, 5000),
         month: on.month,
         day: on.day,
@@ -87,22 +65,20 @@ fn decoded_hour(kind: Kind, hour: u8) -> u8
     ensures { result ≡ decoded_hour (kind_of kind) hour }
 {
     match kind {
-        Kind::Raw => hour,
         Kind::Date => 0,
         Kind::Hour => hour + 1,
-        Kind::Uniform => hour,
-        Kind::Eu5 => hour,
-        Kind::Vic3 => hour,
+        Kind::Raw | Kind::Uniform | Kind::Eu5 | Kind::Vic3 => hour,
     }
 }
 
 // The date of a number's fields, with this mark, or none of the kind: their month and day are the calendar's.
-fn decode(kind: Kind, mark: u16, year: i16, month: u8, day: u8, hour: u8) -> Made
-    requires mark_bound { (mark < 4) × (hour < 24) }
-    requires le_month { (1 ≤ month) × (month ≤ 12) × (1 ≤ day) × (day ≤ days_in (kind_of kind) month) }
-    ensures { made_as not_number result ≡ store_with mark (decoded (kind_of kind) (record { year = year; month = month; day = day; hour = hour })) }
+fn decode(kind: Kind, mark: u16, fields: ExpandedRawDate) -> Option<Packed>
+    requires mark_bound { (mark < 4) × (fields.hour < 24) }
+    requires le_month { (1 ≤ fields.month) × (fields.month ≤ 12) × (1 ≤ fields.day) × (fields.day ≤ days_in (kind_of kind) fields.month) }
+    ensures { made_as not_number result ≡ store_with mark (decoded (kind_of kind) (fields_of fields)) }
 {
-    kinds::settle_day(kind, mark, year, month, day, decoded_hour(kind, hour))
+    let hour = decoded_hour(kind, fields.hour);
+    kinds::settle_day(kind, mark, ExpandedRawDate { hour, ..fields })
 }
 
 // U reads no number outside text.
@@ -110,12 +86,8 @@ pub fn reads_numbers(kind: Kind) -> bool
     ensures { result ≡ reads_numbers (kind_of kind) }
 {
     match kind {
-        Kind::Raw => true,
-        Kind::Date => true,
-        Kind::Hour => true,
+        Kind::Raw | Kind::Date | Kind::Hour | Kind::Eu5 | Kind::Vic3 => true,
         Kind::Uniform => false,
-        Kind::Eu5 => true,
-        Kind::Vic3 => true,
     }
 }
 
@@ -124,33 +96,23 @@ pub fn has_guess(kind: Kind) -> bool
     ensures { result ≡ guesses (kind_of kind) }
 {
     match kind {
-        Kind::Raw => false,
-        Kind::Date => true,
-        Kind::Hour => true,
-        Kind::Uniform => false,
-        Kind::Eu5 => true,
-        Kind::Vic3 => true,
+        Kind::Date | Kind::Hour | Kind::Eu5 | Kind::Vic3 => true,
+        Kind::Raw | Kind::Uniform => false,
     }
 }
 
 // The full decoder, over the kind.
-fn read_as(kind: Kind, s: i32) -> Read
+fn read_as(kind: Kind, s: i32) -> Option<Packed>
     requires { reads_numbers (kind_of kind) ≡ true }
     ensures { read_as result ≡ store (read_number (kind_of kind) s) }
 {
-    let Numbered::Fields(f) = number_fields(s) else {
-        return Read::NotNumber;
-    };
-    let made = decode(kind, NO_MARK, f.year, f.month, f.day, f.hour);
-    match made {
-        Made::Date(date) => Read::Date(date),
-        Made::None => Read::NotNumber,
-    }
+    let fields = number_fields(s)?;
+    decode(kind, NO_MARK, fields)
 }
 
 // The full decoder: for a field that is declared as a date. U has none. In each arm the kind is known when the code is compiled, so that
 // nothing is left of the tests that are over the kind.
-pub fn from_binary(kind: Kind, s: i32) -> Read
+pub fn from_binary(kind: Kind, s: i32) -> Option<Packed>
     requires { reads_numbers (kind_of kind) ≡ true }
     ensures { read_as result ≡ store (read_number (kind_of kind) s) }
 {
@@ -158,57 +120,50 @@ pub fn from_binary(kind: Kind, s: i32) -> Read
         Kind::Raw => read_as(Kind::Raw, s),
         Kind::Date => read_as(Kind::Date, s),
         Kind::Hour => read_as(Kind::Hour, s),
-        Kind::Uniform => Read::NotNumber,
+        Kind::Uniform => None,
         Kind::Eu5 => read_as(Kind::Eu5, s),
         Kind::Vic3 => read_as(Kind::Vic3, s),
     }
 }
 
 // The guess by a number's fields.
-fn guess_by_fields(kind: Kind, s: i32) -> Guess
+fn guess_by_fields(kind: Kind, s: i32) -> Option<Guess>
     requires { guesses (kind_of kind) ≡ true }
     ensures { guessed_as result ≡ store_guess (guess_number (kind_of kind) s) }
 {
-    let Numbered::Fields(f) = number_fields(s) else {
-        return Guess::NotNumber;
-    };
-    if narrow::passes_guess(kind, f.year, f.month, f.day, f.hour) {
-        let made = decode(kind, GUESSED_MARK, f.year, f.month, f.day, f.hour);
-        match made {
-            Made::Date(date) => Guess::Date(date),
-            Made::None => Guess::NotNumber,
-        }
-    } else {
-        Guess::NotNumber
+    let fields = number_fields(s)?;
+    if narrow::passes_guess(kind, fields) {
+        let date = decode(kind, GUESSED_MARK, fields)?;
+        return Some(Guess { date });
     }
+    None
 }
 
 // The guess, over the kind.
-fn guess_as(kind: Kind, s: i32) -> Guess
+fn guess_as(kind: Kind, s: i32) -> Option<Guess>
     requires { guesses (kind_of kind) ≡ true }
     ensures { guessed_as result ≡ store_guess (guess_number (kind_of kind) s) }
 {
     if narrow::may_pass(kind, s) {
-        guess_by_fields(kind, s)
-    } else {
-        Guess::NotNumber
+        return guess_by_fields(kind, s);
     }
+    None
 }
 
 // The narrow guess: for a number that no one declared. R and U have none. Kind by kind, as the full decoder. Its dates are marked as
 // guessed.
-pub fn from_binary_heuristic(kind: Kind, s: i32) -> Guess
+pub fn from_binary_heuristic(kind: Kind, s: i32) -> Option<Guess>
     requires { guesses (kind_of kind) ≡ true }
     ensures { guessed_as result ≡ store_guess (guess_number (kind_of kind) s) }
 {
     if narrow::is_early(s) {
-        return Guess::NotNumber;
+        return None;
     }
     match kind {
-        Kind::Raw => Guess::NotNumber,
+        Kind::Raw => None,
         Kind::Date => guess_as(Kind::Date, s),
         Kind::Hour => guess_as(Kind::Hour, s),
-        Kind::Uniform => Guess::NotNumber,
+        Kind::Uniform => None,
         Kind::Eu5 => guess_as(Kind::Eu5, s),
         Kind::Vic3 => guess_as(Kind::Vic3, s),
     }
@@ -219,12 +174,8 @@ fn writes_numbers(kind: Kind) -> bool
     ensures { result ≡ writes_numbers (kind_of kind) }
 {
     match kind {
-        Kind::Raw => false,
-        Kind::Date => true,
-        Kind::Hour => true,
-        Kind::Uniform => false,
-        Kind::Eu5 => false,
-        Kind::Vic3 => false,
+        Kind::Date | Kind::Hour => true,
+        Kind::Raw | Kind::Uniform | Kind::Eu5 | Kind::Vic3 => false,
     }
 }
 
@@ -233,32 +184,20 @@ fn written_hour(kind: Kind, hour: u8) -> u8
     ensures { result ≡ written_hour (kind_of kind) hour }
 {
     match kind {
-        Kind::Raw => 0,
-        Kind::Date => 0,
-        Kind::Hour => {
-            if hour < 1 {
-                return 0;
-            }
-            hour - 1
-        }
-        Kind::Uniform => 0,
-        Kind::Eu5 => 0,
-        Kind::Vic3 => 0,
+        Kind::Hour => hour.saturating_sub(1),
+        Kind::Raw | Kind::Date | Kind::Uniform | Kind::Eu5 | Kind::Vic3 => 0,
     }
 }
 
 // The number of a date: what D and H write.
-pub fn to_binary(kind: Kind, date: Packed) -> Written
+pub fn to_binary(kind: Kind, date: Packed) -> Option<i32>
     ensures { written_as result ≡ of_date (kind_of kind) (bits_of date) (λ f. write_number (kind_of kind) f) }
 {
     if writes_numbers(kind) {
-        let Opened::Fields(f) = kinds::unpack(kind, date) else {
-            return Written::NotOfKind;
-        };
-        let doy = julian::day_of_year(f.month, f.day);
-        let hour = written_hour(kind, f.hour);
-        Written::Number(julian::to_binary(f.year, doy, hour))
-    } else {
-        Written::NotOfKind
+        let fields = kinds::unpack(kind, date)?;
+        let day = julian::day_of_year(fields.month, fields.day);
+        let hour = written_hour(kind, fields.hour);
+        return Some(julian::to_binary(fields.year, day, hour));
     }
+    None
 }

@@ -1,13 +1,12 @@
 // What the narrow guess asks of a number: before it is divided, and of its fields.
 ghost use Rattle.std.specs.Prelude.{◌≡◌, true, false, ◌<◌, ltb};
 ghost use Rattle.sign.specs.Halves.{up};
-ghost use Rattle.rules.specs.Words.{eq_z};
 ghost use Rattle.rules.specs.Refusals.{Refused, not_number};
 ghost use Rattle.rules.specs.Kinds.{kD, kH, kE, kV};
 ghost use Rattle.rules.specs.Numbers.{guesses, guessed, guess_number};
-ghost use Rattle.kinds.specs.Views.{kind_of};
+ghost use Rattle.kinds.specs.Views.{kind_of, fields_of};
 
-use kinds::Kind;
+use kinds::{ExpandedRawDate, Kind};
 
 // The number of 1 January, at its first hour, of the first year that a guess can pass: -99 for D and E, -1 for H, 1 for V.
 const YEAR_99_BEFORE: u64 = 42_932_760;
@@ -34,96 +33,56 @@ pub(crate) fn may_pass(kind: Kind, s: i32) -> bool
     let h = sign::halves32(s);
     let u = h.up;
     match kind {
-        Kind::Raw => true,
+        Kind::Raw | Kind::Uniform => true,
         Kind::Date => u % 24 == 0,
         Kind::Hour => YEAR_1_BEFORE <= u,
-        Kind::Uniform => true,
         Kind::Eu5 => u % 2 == 0,
         Kind::Vic3 => YEAR_1 <= u,
     }
 }
 
-fn is_year(year: i16, other: i16) -> bool
-    ensures { result ≡ eq_z year other }
-{
-    if other < year {
-        return false;
-    }
-    if year < other {
-        return false;
-    }
-    true
-}
-
 // Year above -100, and hour 0.
-fn guess_date(year: i16, month: u8, day: u8, hour: u8) -> bool
-    ensures { result ≡ guessed kD (record { year = year; month = month; day = day; hour = hour }) }
+fn guess_date(fields: ExpandedRawDate) -> bool
+    ensures { result ≡ guessed kD (fields_of fields) }
 {
-    if -100 < year {
-        return hour == 0;
-    }
-    false
+    -100 < fields.year && fields.hour == 0
 }
 
 // Year above -100, and an even hour: 23 is odd here, and becomes 22 only after this test.
-fn guess_eu5(year: i16, month: u8, day: u8, hour: u8) -> bool
-    ensures { result ≡ guessed kE (record { year = year; month = month; day = day; hour = hour }) }
+fn guess_eu5(fields: ExpandedRawDate) -> bool
+    ensures { result ≡ guessed kE (fields_of fields) }
 {
-    if -100 < year {
-        return hour % 2 == 0;
-    }
-    false
+    -100 < fields.year && fields.hour % 2 == 0
 }
 
 // Year 1800 or more, or 1 January hour 1 of year 1 or -1, which stands for an event that has not occurred yet.
-fn guess_hour(year: i16, month: u8, day: u8, hour: u8) -> bool
-    requires { hour < 24 }
-    ensures { result ≡ guessed kH (record { year = year; month = month; day = day; hour = hour }) }
+fn guess_hour(fields: ExpandedRawDate) -> bool
+    requires { fields.hour < 24 }
+    ensures { result ≡ guessed kH (fields_of fields) }
 {
-    if 1800 <= year {
-        return true;
-    }
-    if month == 1 {
-        if day == 1 {
-            if hour + 1 == 1 {
-                if is_year(year, 1) {
-                    return true;
-                }
-                return is_year(year, -1);
-            }
-        }
-    }
-    false
+    let first_day = fields.month == 1 && fields.day == 1;
+    let first_year = fields.year == 1 || fields.year == -1;
+    1800 <= fields.year || first_day && fields.hour + 1 == 1 && first_year
 }
 
 // Year above 1700, or 1.1.1 with hour 0.
-fn guess_vic3(year: i16, month: u8, day: u8, hour: u8) -> bool
-    ensures { result ≡ guessed kV (record { year = year; month = month; day = day; hour = hour }) }
+fn guess_vic3(fields: ExpandedRawDate) -> bool
+    ensures { result ≡ guessed kV (fields_of fields) }
 {
-    if 1700 < year {
-        return true;
-    }
-    if month == 1 {
-        if day == 1 {
-            if hour == 0 {
-                return is_year(year, 1);
-            }
-        }
-    }
-    false
+    let first_day = fields.month == 1 && fields.day == 1;
+    1700 < fields.year || first_day && fields.hour == 0 && fields.year == 1
 }
 
 // What the kind's guess needs of a number's fields.
-pub(crate) fn passes_guess(kind: Kind, year: i16, month: u8, day: u8, hour: u8) -> bool
-    requires { hour < 24 }
-    ensures { result ≡ guessed (kind_of kind) (record { year = year; month = month; day = day; hour = hour }) }
+pub(crate) fn passes_guess(kind: Kind, fields: ExpandedRawDate) -> bool
+    requires { fields.hour < 24 }
+    ensures { result ≡ guessed (kind_of kind) (fields_of fields) }
 {
     match kind {
-        Kind::Raw => false,
-        Kind::Date => guess_date(year, month, day, hour),
-        Kind::Hour => guess_hour(year, month, day, hour),
-        Kind::Uniform => false,
-        Kind::Eu5 => guess_eu5(year, month, day, hour),
-        Kind::Vic3 => guess_vic3(year, month, day, hour),
+        Kind::Raw | Kind::Uniform => false,
+        Kind::Date => guess_date(fields),
+        Kind::Hour => guess_hour(fields),
+        Kind::Eu5 => guess_eu5(fields),
+        Kind::Vic3 => guess_vic3(fields),
     }
 }

@@ -5,50 +5,26 @@ ghost use Rattle.std.specs.Prelude.{◌≡◌, ◌+◌, ◌-◌, ◌≤◌, leng
 ghost use Rattle.std.proofs.Math.Seq.{paste};
 ghost use Rattle.shifts.specs.Shifts.{opened, closed};
 
-// The n bytes at `from` are copied to `to`, which is not after it. The two may overlap.
-pub fn move_down(b: &mut [u8], from: usize, to: usize, n: usize)
-    requires { (to ≤ from) × (from + n ≤ length b.old) }
+// The n bytes at `from` are copied to `to`. The two places may overlap, in either order.
+pub fn move_within(b: &mut [u8], from: usize, to: usize, n: usize)
+    requires { (from + n ≤ length b.old) × (to + n ≤ length b.old) }
     ensures { b.new ≡ paste b.old to (drop from b.old) n }
 {
-    let mut i = 0;
-    while i < n {
-        b[to + i] = b[from + i];
-        i += 1;
-    }
-}
-
-// The same, to a place that is not before it: the last byte first.
-pub fn move_up(b: &mut [u8], from: usize, to: usize, n: usize)
-    requires { (from ≤ to) × (to + n ≤ length b.old) }
-    ensures { b.new ≡ paste b.old to (drop from b.old) n }
-{
-    let mut i = n;
-    while 0 < i {
-        i -= 1;
-        b[to + i] = b[from + i];
-    }
+    b.copy_within(from..from + n, to);
 }
 
 pub fn put(b: &mut [u8], at: usize, v: &[u8])
     requires { at + length v.now ≤ length b.old }
     ensures { b.new ≡ paste b.old at v.now (length v.now) }
 {
-    let mut i = 0;
-    while i < v.len() {
-        b[at + i] = v[i];
-        i += 1;
-    }
+    b[at..at + v.len()].copy_from_slice(v);
 }
 
 pub fn zero(b: &mut [u8], at: usize, n: usize)
     requires { at + n ≤ length b.old }
     ensures { b.new ≡ paste b.old at (replicate n 0) n }
 {
-    let mut i = 0;
-    while i < n {
-        b[at + i] = 0;
-        i += 1;
-    }
+    b[at..at + n].fill(0);
 }
 
 // The bytes v stand at `at`, and what stood from there up to `end` after them.
@@ -56,7 +32,7 @@ pub fn insert(b: &mut [u8], at: usize, end: usize, v: &[u8])
     requires { (at ≤ end) × (end + length v.now ≤ length b.old) }
     ensures { b.new ≡ opened at end v.now b.old }
 {
-    move_up(b, at, at + v.len(), end - at);
+    move_within(b, at, at + v.len(), end - at);
     put(b, at, v);
 }
 
@@ -65,6 +41,6 @@ pub fn remove(b: &mut [u8], at: usize, end: usize, k: usize)
     requires { (at + k ≤ end) × (end ≤ length b.old) }
     ensures { b.new ≡ closed at end k b.old }
 {
-    move_down(b, at + k, at, end - k - at);
+    move_within(b, at + k, at, end - k - at);
     zero(b, end - k, k);
 }

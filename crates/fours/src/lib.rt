@@ -10,18 +10,12 @@ pub fn put(out: &mut [u32], at: usize, first: u32, second: u32, third: u32, four
     requires { at + 4 ≤ length out.old }
     ensures { out.new ≡ sets out.old at (first ∷ second ∷ third ∷ fourth ∷ []) }
 {
-    out[at] = first;
-    out[at + 1] = second;
-    out[at + 2] = third;
-    out[at + 3] = fourth;
+    out[at..at + 4].copy_from_slice(&[first, second, third, fourth]);
 }
 
 // How many answers there are: as many as are asked for, and as there is room for.
 pub fn least(a: usize, b: usize) -> usize
     ensures { result ≡ least a b }
 {
-    if a <= b {
-        return a;
-    }
-    b
+    a.min(b)
 }

@@ -19,26 +19,11 @@ pub fn put_digits(out: &mut [u8], n: u64, w: usize)
     requires { w ≤ length out.old }
     ensures { out.new ≡ placed (digits_in w n) out.old }
 {
-    let mut i = w;
     let mut m = n;
-    while 0 < i {
-        i -= 1;
+    for i in (0..w).rev() {
         out[i] = b'0' + (m % 10) as u8;
-        m = m / 10;
+        m /= 10;
     }
-}
-
-// How many digits a number has, by counting them.
-fn counted(n: u64) -> usize
-    ensures { result ≡ length (decimal n) }
-{
-    let mut count = 1;
-    let mut m = n;
-    while 10 <= m {
-        m = m / 10;
-        count += 1;
-    }
-    count
 }
 
 // How many digits a number has. A year has at most five: those are found by tests alone.
@@ -46,22 +31,14 @@ pub fn digits_of(n: u64) -> usize
     ensures value { result ≡ length (decimal n) }
     ensures lower_bound { (1 ≤ result) × (result ≤ 20) }
 {
-    if n < 10 {
-        return 1;
+    match n {
+        ..10 => 1,
+        ..100 => 2,
+        ..1000 => 3,
+        ..10000 => 4,
+        ..100000 => 5,
+        _ => n.ilog10() as usize + 1,
     }
-    if n < 100 {
-        return 2;
-    }
-    if n < 1000 {
-        return 3;
-    }
-    if n < 10000 {
-        return 4;
-    }
-    if n < 100000 {
-        return 5;
-    }
-    counted(n)
 }
 
 // A number in as many digits as it has; how many these are.

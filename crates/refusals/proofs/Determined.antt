@@ -1,8 +1,8 @@
 -- The views of `Answers` can be read back, wherever the view of the value can: a contract that is an equation for one of them allows one
 -- result. Assumes nothing.
-use Rattle.std.specs.Prelude.{ℕ, ◌≡◌, cond, ◌==◌, refl, false, Option, Some, None, Result, Ok, Err}
+use Rattle.std.specs.Prelude.{ℕ, ◌≡◌, cond, ◌==◌, refl, Option, Some, None, Result, Ok, Err}
 use Rattle.std.proofs.Common.{ap}
-use Rattle.rules.specs.Refusals.{Answer, Gives, Refused, RefusedAt, given, bad_record, too_long, not_text, not_number, not_of_kind, sum_overflows, out_of_range, buffer_short, bad_length, bad_version, no_room, no_record, guessed_date}
+use Rattle.rules.specs.Refusals.{Answer, Gives, Refused, RefusedAt, bad_record, too_long, not_text, not_number, not_of_kind, sum_overflows, out_of_range, buffer_short, bad_length, bad_version, no_room, no_record, guessed_date}
 use Rattle.rules.proofs.OnRefusals.Determined.{Determines, determined}
 use Rattle.requests.specs.FieldTable.{bad_entry, table_full, not_there}
 use Rattle.requests.specs.ListingRoom.{too_many_bytes}
@@ -67,24 +67,3 @@ module _ {T A : Type 0} (f : T → A) (back : A → T) (left : (t : T) → back 
   -- the same of an Option
   pub option-determined : (n : ℕ) → Determines (option_as n f)
   option-determined n = determined (option_as n f) (option_back back) (option-back n)
-
--- a refusal gives nothing
-pub refused : (A : Type 0) (e : Refusal) → given {A = A} (refusal_as e) ≡ false
-refused A R.TooLong = refl
-refused A R.NotText = refl
-refused A R.NotNumber = refl
-refused A R.NotOfKind = refl
-refused A R.SumOverflows = refl
-refused A R.OutOfRange = refl
-refused A R.BufferShort = refl
-refused A R.TooManyBytes = refl
-refused A R.BadLength = refl
-refused A R.BadVersion = refl
-refused A (R.BadRecord place) = refl
-refused A R.NoRoom = refl
-refused A R.NoRecord = refl
-refused A R.BadEntry = refl
-refused A R.TableFull = refl
-refused A R.NotThere = refl
-refused A R.GuessedDate = refl
-refused A (R.FieldOrMark place) = refl

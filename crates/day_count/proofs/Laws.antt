@@ -1,7 +1,7 @@
 -- The steps of counting days, over the halves of each number: a day number, the date of one, what is judged of a sum; and what a date
 -- of a kind that counts days has. Assumes nothing.
-use mathlib.Core.Path.{◌≡◌, refl, sym, ap, ◌∙◌}
-use mathlib.Core.Bool.{Bool, true, false}
+use mathlib.Core.Path.{◌≡◌, sym, ap, ◌∙◌}
+use mathlib.Core.Bool.{true}
 use Prim.Native.Nat.{ℕ, ◌+◌, ◌-◌, ◌*◌, ◌/◌, ◌%◌, ◌≤◌, ◌<◌}
 use native.Mathlib.Omega.{arith}
 use lib.IntN.{ℤ, pos, nat_abs, sub_ℕ, ◌+ℤ◌, ◌-ℤ◌}
@@ -20,9 +20,9 @@ use Rattle.rules.proofs.OnDays.OrderLaws.{hour-small}
 use Rattle.rules.proofs.OnKinds.PackLaws.{handed-tells}
 use Rattle.rules.proofs.OnDays.CountLaws.{given-range}
 use Rattle.rules.proofs.OnDays.DayLaws.{counter}
-use Rattle.day_count.specs.declared.Sum.{Sum}
-use Rattle.day_count.specs.declared.Verdict.{Verdict}
-use Rattle.day_count.specs.declared.Verdict.TheVariants as J
+use Rattle.std.specs.Prelude.{⊤, Result, Ok}
+use Rattle.refusals.specs.declared.Refusal.{Refusal}
+use Rattle.kinds.specs.declared.Packed.{Packed}
 use Rattle.day_count.specs.Views.{summed_as, judged_as}
 
 -- a number by its halves and their bounds
@@ -75,15 +75,15 @@ side-above u d p = same _ _ (simp ints (omega arith))
 
 -- ---- what is judged of a number, over the range and the date of a number
 
-module _ (low high u d : ℕ) (v : Verdict) (e : (date : ℤ → Fields) → judged_as v date (sub_ℕ u d) ≡ date_within low high date (sub_ℕ u d)) where
-  pub judged-range : v ≡ J.InRange → (d ≤ u + low) × (u ≤ d + high)
+module _ (low high u d : ℕ) (v : Result ⊤ Refusal) (e : (date : ℤ → Fields) → judged_as v date (sub_ℕ u d) ≡ date_within low high date (sub_ℕ u d)) where
+  pub judged-range : {t : ⊤} → v ≡ Ok t → (d ≤ u + low) × (u ≤ d + high)
   judged-range i =
       let date : ℤ → Fields = λ n. day_fields n 0 in
       let r = given-range low high date (sub_ℕ u d) (ap given (sym (e date) ∙ ap (λ w. judged_as w date (sub_ℕ u d)) i)) in
       (omega (arith, r.0, up-sub u d, dn-sub u d), omega (arith, r.1, up-sub u d, dn-sub u d))
 
 -- in days: the sum's own answer
-pub judged-days : (n : ℤ) (h : ℕ) {v w : Verdict} → ((date : ℤ → Fields) → judged_as v date n ≡ date_within 11960684 11960319 date n) → v ≡ w →
+pub judged-days : (n : ℤ) (h : ℕ) {v w : Result ⊤ Refusal} → ((date : ℤ → Fields) → judged_as v date n ≡ date_within 11960684 11960319 date n) → v ≡ w →
     summed n h ≡ judged_as w (λ m. day_fields m h) n
 unfolding summed
 judged-days n h e i = sym (e (λ m. day_fields m h)) ∙ ap (λ x. judged_as x (λ m. day_fields m h) n) i
@@ -113,12 +113,12 @@ module _ (k : Kind) (d : Stored) (f : Fields) (e : handed k d ≡ Gives f) where
 
 -- ---- a kind's answer, from the core's: days, or whatever is added, come to it as 32 bits
 
-pub sum-answers-by : (k : Kind) (d : Stored) (add : Fields → ℤ → Answer Fields) {count : ℤ} {sum r : Sum} → SFits w32 count →
+pub sum-answers-by : (k : Kind) (d : Stored) (add : Fields → ℤ → Answer Fields) {count : ℤ} {sum r : Result Packed Refusal} → SFits w32 count →
     summed_as sum ≡ store_like d (of_date k d (λ f. add f (to_z w32 (of_z w32 count)))) → sum ≡ r →
     summed_as r ≡ store_like d (of_date k d (λ f. add f count))
 sum-answers-by k d add fits is same = ap summed_as (sym same) ∙ (rw (to_z-of_z fits) at is)
 
-pub sum-answers : (k : Kind) (d : Stored) {days : ℤ} {sum r : Sum} → SFits w32 days →
+pub sum-answers : (k : Kind) (d : Stored) {days : ℤ} {sum r : Result Packed Refusal} → SFits w32 days →
     summed_as sum ≡ store_like d (of_date k d (λ f. add_days k f (to_z w32 (of_z w32 days)))) → sum ≡ r →
     summed_as r ≡ store_like d (of_date k d (λ f. add_days k f days))
 sum-answers k d fits is same = sum-answers-by k d (add_days k) fits is same

@@ -11,51 +11,17 @@ ghost use Rattle.rules.specs.Days.{day_number_at, day_number, counts_days, diffe
 ghost use Rattle.kinds.specs.Views.{kind_of, fields_of, bits_of};
 ghost use Rattle.day_count.specs.Views.{summed_as, judged_as, counted_as, start_as, OnCalendar};
 
-use kinds::{ExpandedRawDate, Kind, Opened, Packed};
+use kinds::{ExpandedRawDate, Kind, Packed};
+use refusals::Refusal;
 use sign::Halves;
-
-// A date moved by days, or by hours (`hour_count`), or why there is none.
-#[derive(Clone, Copy)]
-pub enum Sum {
-    Date(Packed),
-    NotOfKind,
-    Overflow,
-    OutOfRange,
-}
-
-// Whether the number that a sum gives has a date.
-#[derive(Clone, Copy)]
-pub enum Verdict {
-    InRange,
-    OutOfRange,
-    Overflow,
-}
-
-// A difference in days, or that one of the dates is not of the kind.
-#[derive(Clone, Copy)]
-pub enum Days {
-    Days(i32),
-    NotOfKind,
-}
-
-// The start of a date's day.
-#[derive(Clone, Copy)]
-pub enum Start {
-    Date(Packed),
-    NotOfKind,
-}
 
 // D, V and E count days.
 pub fn counts_days(kind: Kind) -> bool
     ensures { result ≡ counts_days (kind_of kind) }
 {
     match kind {
-        Kind::Raw => false,
-        Kind::Date => true,
-        Kind::Hour => false,
-        Kind::Uniform => false,
-        Kind::Eu5 => true,
-        Kind::Vic3 => true,
+        Kind::Date | Kind::Eu5 | Kind::Vic3 => true,
+        Kind::Raw | Kind::Hour | Kind::Uniform => false,
     }
 }
 
@@ -64,12 +30,8 @@ fn has_start(kind: Kind) -> bool
     ensures { result ≡ has_start (kind_of kind) }
 {
     match kind {
-        Kind::Raw => false,
-        Kind::Date => false,
-        Kind::Hour => false,
-        Kind::Uniform => false,
         Kind::Eu5 => true,
-        Kind::Vic3 => false,
+        Kind::Raw | Kind::Date | Kind::Hour | Kind::Uniform | Kind::Vic3 => false,
     }
 }
 
@@ -78,12 +40,8 @@ fn summed_hour(kind: Kind, hour: u8) -> u8
     ensures { result ≡ summed_hour (kind_of kind) hour }
 {
     match kind {
-        Kind::Raw => 0,
-        Kind::Date => 0,
-        Kind::Hour => 0,
-        Kind::Uniform => 0,
-        Kind::Eu5 => 0,
         Kind::Vic3 => hour,
+        Kind::Raw | Kind::Date | Kind::Hour | Kind::Uniform | Kind::Eu5 => 0,
     }
 }
 
@@ -137,45 +95,39 @@ fn date_of(up: u64, dn: u64, hour: u8, mark: u16) -> Packed
 
 // What a sum is, whatever it counts: whether the number up - dn lies in the range from -low to high, outside it, or outside 32 bits.
 // The range is narrower than 32 bits, so that one in range is found after two tests.
-pub fn judge(up: u64, dn: u64, low: u64, high: u64) -> Verdict
+pub fn judge(up: u64, dn: u64, low: u64, high: u64) -> Result<(), Refusal>
     requires { (up ≤ 68719476736) × (dn ≤ 68719476736) × (low ≤ 2147483648) × (high ≤ 2147483647) }
     ensures { (date : ℤ → Fields) → judged_as result date (sub_ℕ up dn) ≡ date_within low high date (sub_ℕ up dn) }
 {
     if up + low < dn {
         if up + 2147483648 < dn {
-            return Verdict::Overflow;
+            return Err(Refusal::SumOverflows);
         }
-        return Verdict::OutOfRange;
+        return Err(Refusal::OutOfRange);
     }
     if dn + high < up {
         if dn + 2147483647 < up {
-            return Verdict::Overflow;
+            return Err(Refusal::SumOverflows);
         }
-        return Verdict::OutOfRange;
+        return Err(Refusal::OutOfRange);
     }
-    Verdict::InRange
+    Ok(())
 }
 
 // The date of the number up - dn, with this hour and this mark, or why there is none.
-fn date_at(up: u64, dn: u64, hour: u8, mark: u16) -> Sum
+fn date_at(up: u64, dn: u64, hour: u8, mark: u16) -> Result<Packed, Refusal>
     requires { (up ≤ 4294967296) × (dn ≤ 4294967296) × (hour < 32) × (mark < 4) }
     ensures { summed_as result ≡ store_with mark (summed (sub_ℕ up dn) hour) }
 {
-    let verdict = judge(up, dn, 11960684, 11960319);
-    match verdict {
-        Verdict::Overflow => Sum::Overflow,
-        Verdict::OutOfRange => Sum::OutOfRange,
-        Verdict::InRange => {
-            if up < dn {
-                return Sum::Date(date_of(0, dn - up, hour, mark));
-            }
-            Sum::Date(date_of(up - dn, 0, hour, mark))
-        }
+    judge(up, dn, 11960684, 11960319)?;
+    if up < dn {
+        return Ok(date_of(0, dn - up, hour, mark));
     }
+    Ok(date_of(up - dn, 0, hour, mark))
 }
 
 // A date moved by days, with this hour and this mark.
-fn moved(date: ExpandedRawDate, days: i32, hour: u8, mark: u16) -> Sum
+fn moved(date: ExpandedRawDate, days: i32, hour: u8, mark: u16) -> Result<Packed, Refusal>
     requires { OnCalendar date × (hour < 32) × (mark < 4) }
     ensures { summed_as result ≡ store_with mark (summed (day_number (fields_of date) +ℤ days) hour) }
 {
@@ -190,23 +142,15 @@ fn moved(date: ExpandedRawDate, days: i32, hour: u8, mark: u16) -> Sum
 
 // A date moved by days: its number and the days summed. Past 32 bits the sum overflows; outside the years it is out of range. The sum
 // keeps the mark of the date that it starts from.
-pub fn add_days(kind: Kind, date: Packed, days: i32) -> Sum
+pub fn add_days(kind: Kind, date: Packed, days: i32) -> Result<Packed, Refusal>
     ensures { summed_as result ≡ store_like (bits_of date) (of_date (kind_of kind) (bits_of date) (λ f. add_days (kind_of kind) f days)) }
 {
     if counts_days(kind) {
-        let opened = kinds::unpack(kind, date);
-        let Opened::Fields(fields) = opened else {
-            return Sum::NotOfKind;
-        };
-        moved(
-            fields,
-            days,
-            summed_hour(kind, fields.hour),
-            kinds::mark_of(date),
-        )
-    } else {
-        Sum::NotOfKind
+        let fields = kinds::unpack(kind, date).ok_or(Refusal::NotOfKind)?;
+        let hour = summed_hour(kind, fields.hour);
+        return moved(fields, days, hour, kinds::mark_of(date));
     }
+    Err(Refusal::NotOfKind)
 }
 
 // The number of the second date less that of the first.
@@ -224,41 +168,25 @@ fn between(first: ExpandedRawDate, second: ExpandedRawDate) -> i32
 }
 
 // The days from the first date to the second, whatever their hours.
-pub fn days_until(kind: Kind, first: Packed, second: Packed) -> Days
+pub fn days_until(kind: Kind, first: Packed, second: Packed) -> Option<i32>
     ensures { counted_as result ≡ of_dates (kind_of kind) (bits_of first) (bits_of second) (λ f g. difference (kind_of kind) f g) }
 {
     if counts_days(kind) {
-        let a = kinds::unpack(kind, first);
-        let Opened::Fields(f) = a else {
-            return Days::NotOfKind;
-        };
-        let b = kinds::unpack(kind, second);
-        let Opened::Fields(g) = b else {
-            return Days::NotOfKind;
-        };
-        Days::Days(between(f, g))
-    } else {
-        Days::NotOfKind
+        let from = kinds::unpack(kind, first)?;
+        let to = kinds::unpack(kind, second)?;
+        return Some(between(from, to));
     }
+    None
 }
 
 // The same date with hour 0, and the same mark.
-pub fn start_of_day(kind: Kind, date: Packed) -> Start
+pub fn start_of_day(kind: Kind, date: Packed) -> Option<Packed>
     ensures { start_as result ≡ store_like (bits_of date) (of_date (kind_of kind) (bits_of date) (λ f. start_of_day (kind_of kind) f)) }
 {
     if has_start(kind) {
-        let opened = kinds::unpack(kind, date);
-        let Opened::Fields(on) = opened else {
-            return Start::NotOfKind;
-        };
-        let fields = ExpandedRawDate {
-            year: on.year,
-            month: on.month,
-            day: on.day,
-            hour: 0,
-        };
-        Start::Date(kinds::pack(kinds::mark_of(date), fields))
-    } else {
-        Start::NotOfKind
+        let fields = kinds::unpack(kind, date)?;
+        let start = ExpandedRawDate { hour: 0, ..fields };
+        return Some(kinds::pack(kinds::mark_of(date), start));
     }
+    None
 }

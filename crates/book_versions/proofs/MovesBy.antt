@@ -1,19 +1,21 @@
 -- What a move answers and leaves, by what the code found: refused as the check is, a record that may not move, or laid out. Over the two
 -- formats and the way. Assumes nothing.
 use mathlib.Core.Path.{◌≡◌, refl, sym, ap, subst, ◌∙◌}
-use mathlib.Core.Bool.{Bool, true, false, cond, ◌&&◌}
+use mathlib.Core.Bool.{Bool, true, false}
 use mathlib.Core.List.{List, [], ◌∷◌, map}
-use Prim.Native.Nat.{ℕ, suc, ◌+◌, ◌*◌, ◌≤◌, ◌<◌}
+use Prim.Native.Nat.{ℕ, ◌+◌, ◌*◌, ◌≤◌, ◌<◌}
 use native.Mathlib.Omega.{arith}
-use borrow.Author.Tests.{le-leb, lt-leb}
 use lib.Dec.{T, leb}
-use lib.ListN.{length, get_or, take, drop}
-use Rattle.rules.specs.Refusals.{Answer, Gives, Refused, RefusedAt, ◌then◌, demand, given, not_of_kind, no_room}
+use lib.ListN.{length, get_or, drop}
+use Rattle.rules.specs.Refusals.{Answer, Gives, Refused, RefusedAt, ◌then◌, demand, given, not_of_kind}
 use Rattle.rules.specs.Kinds.{Kind, Stored, handed}
 use Rattle.rules.specs.Book.{Format, sound_by, head_size, pieces, first_bad, all_pass, records, check, kind_of_code, version1}
 use Rattle.rules.proofs.OnBook.FrameLaws.{Sensible, same-refusal, same_place}
 use Rattle.rules.proofs.OnBook.BookLaws.{Holds, Counted, counted, none-fails, one-fails}
 use Rattle.rules.proofs.OnBook.EntryLaws.{version1-sensible}
+use Rattle.refusals.specs.declared.Refusal.{Refusal}
+use Rattle.refusals.specs.Answers.{refusal_as}
+use Rattle.refusals.proofs.Determined.{refused}
 use Rattle.requests.specs.Laid.{laid}
 use Rattle.requests.specs.Second.{FieldEntry, field_in, date_in, field_entry_of, version2}
 use Rattle.requests.specs.Moves.{Way, field_or_mark, leaving, moved, move_answer, filled_with, move_buffer, widened, narrowed, plain, upward, downward}
@@ -43,6 +45,14 @@ module _ {A B : Type 0} {from : Format A} {to : Format B} (way : Way from to) (s
   pub move-bad : (n place : ℕ) → check from s ≡ RefusedAt n place → Done (RefusedAt n place) t
   unfolding move_answer moved filled_with check
   move-bad n place e = rw (by-records (same_place (records from s) length n place e)) (refl, refl)
+
+  pub move-refusing : (e : Refusal) → check from s ≡ refusal_as e → Done (refusal_as e) t
+  move-refusing e h = by (refusal_as e) h (refused ℕ e)
+    where
+      by : (x : Answer ℕ) → check from s ≡ x → given x ≡ false → Done x t
+      by (Gives n) g u = cc
+      by (Refused n) g u = move-refused n g
+      by (RefusedAt n place) g u = move-bad n place g
 
   -- a record may not move: the place of the first
   pub move-stops : (rs : List (List ℕ)) → records from s ≡ Gives rs → first_bad way.passes rs < length rs → Done (RefusedAt field_or_mark (first_bad way.passes rs)) t

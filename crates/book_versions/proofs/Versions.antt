@@ -5,8 +5,8 @@ use mathlib.Core.List.{List}
 use Prim.Native.Nat.{ℕ, ◌≤◌, ◌<◌}
 use native.Mathlib.Omega.{arith}
 use borrow.Author.Tests.{le-leb, eqb-true, eqb-false}
-use lib.Dec.{leb, eqb}
-use lib.ListN.{length, get_or, get_or-eq_default}
+use lib.Dec.{eqb}
+use lib.ListN.{length, get_or-eq_default}
 use Rattle.rules.specs.Refusals.{Answer, Gives, Refused, given, not_of_kind}
 use Rattle.rules.specs.Kinds.{handed}
 use Rattle.rules.specs.Book.{Format, length_size, head_size, version_of, check, entry_at, append_answer, append_buffer, kind_code, version1}

@@ -1,14 +1,13 @@
 -- A record of one size as one of another, and the book of such records, over both sizes; and the code's answer as that of `requests`.
 -- Assumes nothing.
-use Rattle.std.specs.Prelude.{ℕ, ◌+◌, ◌*◌, ◌-◌, cond, List, ◌++◌, map, leb, length, take, drop, replicate}
-use Rattle.rules.specs.Refusals.{Answer, Gives, Refused, RefusedAt, demand, bad_length, bad_version, bad_record, no_room}
+use Rattle.std.specs.Prelude.{ℕ, ◌+◌, ◌*◌, ◌-◌, cond, List, ◌++◌, map, leb, length, take, drop, replicate, Result}
+use Rattle.rules.specs.Refusals.{Answer, Gives, demand, no_room}
 use Rattle.rules.specs.Book.{head_size}
 use Rattle.requests.specs.Laid.{laid}
-use Rattle.requests.specs.Moves.{field_or_mark}
 use Rattle.frame.specs.Views.{frame_of}
 use Rattle.book.specs.Views.{date_size, least_size}
-use Rattle.book_versions.specs.declared.moves.Moved.{Moved}
-use Rattle.book_versions.specs.declared.moves.Moved.TheVariants as M
+use Rattle.refusals.specs.declared.Refusal.{Refusal}
+use Rattle.refusals.specs.Answers.{result_as}
 
 abbrev pub zeros : ℕ → List ℕ
 zeros n = replicate n 0
@@ -32,10 +31,5 @@ unfoldable pub lay_buffer : ℕ → ℕ → List (List ℕ) → List ℕ → Lis
 lay_buffer size version rs t =
     cond (leb (room_of size (length rs)) (length t)) (laid (frame_of size (length rs) version) rs ++ drop (room_of size (length rs)) t) t
 
-abbrev pub moved_as : Moved → Answer ℕ
-moved_as (M.Records n) = Gives n
-moved_as M.BadLength = Refused bad_length
-moved_as M.BadVersion = Refused bad_version
-moved_as (M.BadRecord place) = RefusedAt bad_record place
-moved_as (M.FieldOrMark place) = RefusedAt field_or_mark place
-moved_as M.NoRoom = Refused no_room
+abbrev pub moved_as : Result ℕ Refusal → Answer ℕ
+moved_as = result_as (λ n. n)

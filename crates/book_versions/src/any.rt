@@ -1,5 +1,5 @@
 // Calls that take both versions: each is version 2's where the version byte is 2, else version 1's. And the walk: one check, many records.
-ghost use Rattle.std.specs.Prelude.{◌≡◌, true, ◌++◌, ◌+◌, ◌*◌, ◌-◌, ◌≤◌, ◌<◌, eqb, length, drop};
+ghost use Rattle.std.specs.Prelude.{◌≡◌, true, ◌++◌, ◌+◌, ◌*◌, ◌≤◌, ◌<◌, eqb, length, drop};
 ghost use Rattle.std.proofs.lemmas.List.Edits.{sets};
 ghost use Rattle.rules.specs.Refusals.{given};
 ghost use Rattle.rules.specs.Book.{version_of, check, entry_at};
@@ -10,69 +10,67 @@ ghost use Rattle.book.specs.Views.{checked_as, found_as};
 ghost use Rattle.book_versions.specs.Walk.{numbers_of, numbers_from, walked, walked_over};
 
 use crate::second;
-use book::{Checked, Found};
-use frame::{HEAD_SIZE, LENGTH_SIZE};
+use book::Record;
+use frame::LENGTH_SIZE;
+use refusals::Refusal;
 
 fn is_second(b: &[u8]) -> bool
     ensures { result ≡ eqb (version_of b.now) version2.frame.version }
 {
-    if b.len() < HEAD_SIZE {
-        return false;
-    }
-    b[LENGTH_SIZE] == second::VERSION
+    b.get(LENGTH_SIZE).copied() == Some(second::FORMAT.frame.version)
 }
 
 // Whether the buffer starts with a book of either version, and how many records it has.
-pub fn check(b: &[u8]) -> Checked
+pub fn check(b: &[u8]) -> Result<usize, Refusal>
     ensures { checked_as result ≡ check (both b.now) b.now }
 {
     if is_second(b) {
-        return second::check(b);
+        second::check(b)
+    } else {
+        book::check(b)
     }
-    book::check(b)
 }
 
 // The record at a place of a book of either version that was checked.
-pub fn entry(b: &[u8], place: usize) -> Found
+pub fn entry(b: &[u8], place: usize) -> Result<Record, Refusal>
     requires { given (check (both b.now) b.now) ≡ true }
     ensures { found_as result ≡ entry_at (both b.now) b.now place }
 {
     if is_second(b) {
-        return second::entry(b, place);
+        second::entry(b, place)
+    } else {
+        book::entry(b, place)
     }
-    book::entry(b, place)
 }
 
 // The record at a place of whatever the buffer holds. A record of version 1 has the field number 0.
-pub fn record_at(b: &[u8], place: usize) -> Found
+pub fn record_at(b: &[u8], place: usize) -> Result<Record, Refusal>
     ensures { found_as result ≡ entry_at (both b.now) b.now place }
 {
     if is_second(b) {
-        return second::record_at(b, place);
+        second::record_at(b, place)
+    } else {
+        book::record_at(b, place)
     }
-    book::record_at(b, place)
 }
 
 // ---- the walk
 
 // A record as four numbers: 0, its kind's code, its date, its field number. In a book that was checked no other is found.
-fn put_numbers(out: &mut [u32], at: usize, found: Found)
+fn put_numbers(out: &mut [u32], at: usize, found: Result<Record, Refusal>)
     requires { at + 4 ≤ length out.old }
     ensures { out.new ≡ sets out.old at (numbers_of (found_as found)) }
 {
     match found {
-        Found::Record { kind, field, date } => fours::put(
+        Ok(record) => fours::put(
             out,
             at,
             0,
-            codes::kind_code(kind) as u32,
-            codes::date_number(date),
-            field as u32,
+            codes::kind_code(record.kind) as u32,
+            codes::date_number(record.date),
+            record.field as u32,
         ),
-        Found::BadLength => fours::put(out, at, refusals::BAD_LENGTH as u32, 0, 0, 0),
-        Found::BadVersion => fours::put(out, at, refusals::BAD_VERSION as u32, 0, 0, 0),
-        Found::BadRecord(_) => fours::put(out, at, refusals::BAD_RECORD as u32, 0, 0, 0),
-        Found::NoRecord => fours::put(out, at, refusals::NO_RECORD as u32, 0, 0, 0),
+        Err(refusal) => fours::put(out, at, u8::from(refusal) as u32, 0, 0, 0),
     }
 }
 
@@ -82,37 +80,19 @@ fn put_records(b: &[u8], place: usize, out: &mut [u32], n: usize)
     requires n_bound { (place + n < 18446744073709551616) × (n * 4 ≤ length out.old) }
     ensures { out.new ≡ fours (numbers_from b.now place) n ++ drop (n * 4) out.old }
 {
-    let mut i = 0;
-    while i < n {
+    for i in 0..n {
         put_numbers(out, i * 4, entry(b, place + i));
-        i += 1;
     }
-}
-
-fn left_after(n: usize, place: usize) -> usize
-    ensures { result ≡ n - place }
-{
-    if n <= place {
-        return 0;
-    }
-    n - place
 }
 
 // Checks a book of either version once, and writes its records from a place on, each as four numbers, as many as there are and as `out`
 // has whole fours. Gives how many were written; at a refusal nothing is.
-pub fn records(b: &[u8], place: usize, out: &mut [u32]) -> Checked
+pub fn records(b: &[u8], place: usize, out: &mut [u32]) -> Result<usize, Refusal>
     ensures result_value { checked_as result ≡ walked b.now place (length out.old) }
     ensures out_after { out.new ≡ walked_over (walked b.now place (length out.old)) b.now place out.old }
 {
-    let checked = check(b);
-    match checked {
-        Checked::Records(n) => {
-            let count = fours::least(left_after(n, place), out.len() / 4);
-            put_records(b, place, out, count);
-            Checked::Records(count)
-        }
-        Checked::BadLength => Checked::BadLength,
-        Checked::BadVersion => Checked::BadVersion,
-        Checked::BadRecord(bad) => Checked::BadRecord(bad),
-    }
+    let n = check(b)?;
+    let count = n.saturating_sub(place).min(out.len() / 4);
+    put_records(b, place, out, count);
+    Ok(count)
 }

@@ -19,7 +19,8 @@ use Rattle.rules.proofs.OnDays.CountLaws.{InRange}
 use Rattle.requests.specs.Hours.{counts_in, since_first, hours_after, hour_summed}
 use Rattle.requests.proofs.OnHours.BlockLaws.{counts}
 use Rattle.requests.proofs.OnHours.NumberLaws.{since-even, hour-in}
-use Rattle.day_count.specs.declared.Verdict.{Verdict}
+use Rattle.std.specs.Prelude.{⊤, Result}
+use Rattle.refusals.specs.declared.Refusal.{Refusal}
 use Rattle.day_count.specs.Views.{judged_as}
 use Rattle.day_count.proofs.Laws.{in-month, gap_is, side-below, side-above}
 
@@ -53,7 +54,7 @@ since-is u d p =
     let a = up-sub u d in let b = dn-sub u d in omega (arith, since-even (sub_ℕ u d) (omega arith))
 
 -- the sum's own answer, from what is judged of its number
-pub judged-hours : (k : Kind) (n : ℤ) {v w : Verdict} → ((date : ℤ → Fields) → judged_as v date n ≡ date_within 243247680 330847679 date n) → v ≡ w →
+pub judged-hours : (k : Kind) (n : ℤ) {v w : Result ⊤ Refusal} → ((date : ℤ → Fields) → judged_as v date n ≡ date_within 243247680 330847679 date n) → v ≡ w →
     hour_summed k n ≡ judged_as w (λ m. hours_after k (since_first m)) n
 unfolding hour_summed
 judged-hours k n e i =

@@ -1,15 +1,13 @@
 -- The code's types as those of `rules`. Assumes nothing.
-use Rattle.std.specs.Prelude.{◌-◌, ◌≤◌, ◌<◌, ℤ}
+use Rattle.std.specs.Prelude.{◌-◌, ◌≤◌, ◌<◌, ℤ, Option, Some, None}
 use Rattle.rules.specs.Refusals.{Answer, Gives, Refused, not_of_kind}
 use Rattle.rules.specs.Kinds.{Kind, least_hour}
 use Rattle.kinds.specs.declared.ExpandedRawDate.{ExpandedRawDate}
 use Rattle.day_count.specs.Views.{OnCalendar}
-use Rattle.hour_count.specs.declared.Counted.{Counted}
-use Rattle.hour_count.specs.declared.Counted.TheVariants as C
 
-abbrev pub counted_as : Counted → Answer ℤ
-counted_as (C.Count n) = Gives n
-counted_as C.NotOfKind = Refused not_of_kind
+abbrev pub counted_as : Option ℤ → Answer ℤ
+counted_as (Some n) = Gives n
+counted_as None = Refused not_of_kind
 
 -- a day of its month at an hour of the kind's day: every date of a kind that counts hours is on one
 abbrev pub OnHour : Kind → ExpandedRawDate → Type 0

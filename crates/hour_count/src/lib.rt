@@ -13,8 +13,8 @@ ghost use Rattle.kinds.specs.Views.{kind_of, fields_of, bits_of};
 ghost use Rattle.day_count.specs.Views.{summed_as};
 ghost use Rattle.hour_count.specs.Views.{counted_as, OnHour};
 
-use day_count::{Sum, Verdict};
-use kinds::{ExpandedRawDate, Kind, Opened, Packed};
+use kinds::{ExpandedRawDate, Kind, Packed};
+use refusals::Refusal;
 use sign::Halves;
 
 // The hours of a block: H counts single hours, V blocks of six.
@@ -22,24 +22,14 @@ pub const HOUR: u64 = 1;
 
 pub const SIX_HOURS: u64 = 6;
 
-// A difference in hours or in blocks of hours, or that one of the dates is not of the kind.
-#[derive(Clone, Copy)]
-pub enum Counted {
-    Count(i32),
-    NotOfKind,
-}
-
 // Whether the kind counts in blocks of so many hours.
 fn counts_in(block: u64, kind: Kind) -> bool
     ensures { result ≡ counts_in block (kind_of kind) }
 {
     match kind {
-        Kind::Raw => false,
-        Kind::Date => false,
         Kind::Hour => block == HOUR,
-        Kind::Uniform => false,
-        Kind::Eu5 => false,
         Kind::Vic3 => block == SIX_HOURS,
+        Kind::Raw | Kind::Date | Kind::Uniform | Kind::Eu5 => false,
     }
 }
 
@@ -48,12 +38,8 @@ fn first_hour(kind: Kind) -> u8
     ensures { result ≡ least_hour (kind_of kind) }
 {
     match kind {
-        Kind::Raw => 0,
-        Kind::Date => 0,
         Kind::Hour => 1,
-        Kind::Uniform => 0,
-        Kind::Eu5 => 0,
-        Kind::Vic3 => 0,
+        Kind::Raw | Kind::Date | Kind::Uniform | Kind::Eu5 | Kind::Vic3 => 0,
     }
 }
 
@@ -84,20 +70,22 @@ fn date_after(kind: Kind, hours: u64, mark: u16) -> Packed
 }
 
 // The date of the number up - dn, with this mark, or why there is none.
-fn date_at(kind: Kind, up: u64, dn: u64, mark: u16) -> Sum
+fn date_at(kind: Kind, up: u64, dn: u64, mark: u16) -> Result<Packed, Refusal>
     requires { (up ≤ 68719476736) × (dn ≤ 68719476736) × (mark < 4) }
     ensures { summed_as result ≡ store_with mark (hour_summed (kind_of kind) (sub_ℕ up dn)) }
 {
-    let verdict = day_count::judge(up, dn, 243247680, 330847679);
-    match verdict {
-        Verdict::Overflow => Sum::Overflow,
-        Verdict::OutOfRange => Sum::OutOfRange,
-        Verdict::InRange => Sum::Date(date_after(kind, up + 243247680 - dn, mark)),
-    }
+    day_count::judge(up, dn, 243247680, 330847679)?;
+    Ok(date_after(kind, up + 243247680 - dn, mark))
 }
 
 // A date moved by so many blocks, with this mark. The sum is in hours.
-fn moved(kind: Kind, block: u64, date: ExpandedRawDate, count: i32, mark: u16) -> Sum
+fn moved(
+    kind: Kind,
+    block: u64,
+    date: ExpandedRawDate,
+    count: i32,
+    mark: u16,
+) -> Result<Packed, Refusal>
     requires { OnHour (kind_of kind) date × (block ≤ 24) × (mark < 4) }
     ensures { summed_as result ≡ store_with mark (hour_summed (kind_of kind) (hour_number (kind_of kind) (fields_of date) +ℤ pos block *ℤ count)) }
 {
@@ -112,18 +100,14 @@ fn moved(kind: Kind, block: u64, date: ExpandedRawDate, count: i32, mark: u16) -
 
 // A date moved by so many blocks of so many hours. Past 32 bits the sum of hours overflows; outside the years it is out of range. The
 // sum keeps the mark of the date that it starts from.
-pub fn add(kind: Kind, block: u64, date: Packed, count: i32) -> Sum
+pub fn add(kind: Kind, block: u64, date: Packed, count: i32) -> Result<Packed, Refusal>
     ensures { summed_as result ≡ store_like (bits_of date) (of_date (kind_of kind) (bits_of date) (λ f. add_count block (kind_of kind) f count)) }
 {
     if counts_in(block, kind) {
-        let opened = kinds::unpack(kind, date);
-        let Opened::Fields(fields) = opened else {
-            return Sum::NotOfKind;
-        };
-        moved(kind, block, fields, count, kinds::mark_of(date))
-    } else {
-        Sum::NotOfKind
+        let fields = kinds::unpack(kind, date).ok_or(Refusal::NotOfKind)?;
+        return moved(kind, block, fields, count, kinds::mark_of(date));
     }
+    Err(Refusal::NotOfKind)
 }
 
 // The number of the second date less that of the first, in blocks.
@@ -147,20 +131,13 @@ fn between(kind: Kind, block: u64, first: ExpandedRawDate, second: ExpandedRawDa
 }
 
 // The blocks of so many hours from the first date to the second.
-pub fn until(kind: Kind, block: u64, first: Packed, second: Packed) -> Counted
+pub fn until(kind: Kind, block: u64, first: Packed, second: Packed) -> Option<i32>
     ensures { counted_as result ≡ of_dates (kind_of kind) (bits_of first) (bits_of second) (λ f g. count_between block (kind_of kind) f g) }
 {
     if counts_in(block, kind) {
-        let a = kinds::unpack(kind, first);
-        let Opened::Fields(f) = a else {
-            return Counted::NotOfKind;
-        };
-        let b = kinds::unpack(kind, second);
-        let Opened::Fields(g) = b else {
-            return Counted::NotOfKind;
-        };
-        Counted::Count(between(kind, block, f, g))
-    } else {
-        Counted::NotOfKind
+        let from = kinds::unpack(kind, first)?;
+        let to = kinds::unpack(kind, second)?;
+        return Some(between(kind, block, from, to));
     }
+    None
 }

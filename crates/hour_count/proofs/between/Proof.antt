@@ -4,7 +4,7 @@ use native.Mathlib.Nat.{div-le_self}
 use native.Mathlib.Omega.{arith}
 use mir.Syntax.{w32}
 use Rattle.sign.proofs.Bits.{held}
-use Prim.Native.Nat.{◌+◌, ◌-◌, ◌/◌, ◌≤◌}
+use Prim.Native.Nat.{◌+◌, ◌-◌}
 use Rattle.hour_count.proofs.Laws.{gap_below, gap-above}
 use borrow.Author.Rules.{rules}
 use Rattle.hour_count.proofs.between.Statement.{statement}

@@ -33,10 +33,10 @@ use Rattle.kinds.specs.Views.{kind_of, bits_of}
 use Rattle.rules.proofs.OnKinds.PackLaws.{handed-by, unmarked}
 use Rattle.refusals.specs.declared.Refusal.{Refusal}
 use Rattle.refusals.specs.Answers.{refusal_as}
-use Rattle.refusals.proofs.Determined.{refused}
+use Rattle.refusals.proofs.RefusalLaws.{refused, refusal-then}
 use Rattle.frame.specs.Views.{frame_of, pieces_counted}
 use Rattle.frame.proofs.Counts.{counted_is}
-use Rattle.frame.proofs.Refusing.{passed-on, refused-before}
+use Rattle.frame.proofs.Refusing.{refused-before}
 use Rattle.book.specs.declared.Record.{Record}
 use Rattle.book.specs.Views.{date_size, least_size, field_record_size, stored_by, kept_by, entry_with, field_sized, entry_sized, book_of, in_bits, bytes_of, slot_as, found_as}
 
@@ -215,15 +215,15 @@ module _ (size most version : ℕ) (plain : Bool) (some : least_size ≤ size) (
     pub frame-refused : pieces_counted (frame_of size most version) s ≡ refusal_as e → check format s ≡ refusal_as e
     unfolding check records
     frame-refused h =
-        rw (refused-before e (framed format.frame s) length (sym (counted_is format.frame s) ∙ h), passed-on e (all_pass bad_record (sound_by format)))
-        (passed-on e _)
+        rw (refused-before e (framed format.frame s) length (sym (counted_is format.frame s) ∙ h), refusal-then e (all_pass bad_record (sound_by format)))
+        (refusal-then e _)
 
     -- by the check
     module _ (h : check format s ≡ refusal_as e) where
       pub entry-refused : (i : ℕ) → entry_at format s i ≡ refusal_as e
       unfolding check record_at entry_at
       entry-refused i =
-          rw (refused-before e (records format s) length h, passed-on e (λ (rs : List (List ℕ)). pick rs i)) (passed-on e _)
+          rw (refused-before e (records format s) length h, refusal-then e (λ (rs : List (List ℕ)). pick rs i)) (refusal-then e _)
 
       pub append-refused : (r : List ℕ) → Appends format r s (refusal_as e) s
       append-refused r = by (refusal_as e) h (refused ℕ e)

@@ -15,7 +15,7 @@ use Rattle.rules.proofs.OnBook.BookLaws.{Holds, Counted, counted, none-fails, on
 use Rattle.rules.proofs.OnBook.EntryLaws.{version1-sensible}
 use Rattle.refusals.specs.declared.Refusal.{Refusal}
 use Rattle.refusals.specs.Answers.{refusal_as}
-use Rattle.refusals.proofs.Determined.{refused}
+use Rattle.refusals.proofs.RefusalLaws.{refused}
 use Rattle.requests.specs.Laid.{laid}
 use Rattle.requests.specs.Second.{FieldEntry, field_in, date_in, field_entry_of, version2}
 use Rattle.requests.specs.Moves.{Way, field_or_mark, leaving, moved, move_answer, filled_with, move_buffer, widened, narrowed, plain, upward, downward}

@@ -15,7 +15,7 @@ use Rattle.refusals.specs.declared.Refusal.{Refusal}
 use Rattle.refusals.specs.declared.Refusal.TheVariants as R
 use Rattle.refusals.specs.Numbers.{number_of}
 use Rattle.refusals.specs.Answers.{refusal_as}
-use Rattle.refusals.proofs.Determined.{refused}
+use Rattle.refusals.proofs.RefusalLaws.{refused}
 use Rattle.requests.specs.Second.{FieldEntry}
 use Rattle.requests.specs.Both.{both}
 use Rattle.requests.specs.Fours.{least}

@@ -2,7 +2,7 @@
 use Rattle.std.proofs.Common.{◌≡◌, ◌-◌, ◌/◌, length, sym, ap, ◌∙◌}
 use Rattle.rules.specs.Refusals.{Gives}
 use Rattle.requests.specs.Fours.{least}
-use Rattle.frame.proofs.Refusing.{exits}
+use Rattle.refusals.proofs.RefusalLaws.{passed}
 use Rattle.book_versions.specs.Walk.{walked_over}
 use Rattle.book_versions.proofs.WalkLaws.{walk-gives, walk-refusing, least-min}
 use Rattle.book_versions.proofs.any.records.Goals as goal
@@ -10,7 +10,7 @@ use Rattle.book_versions.proofs.any.records.Goals as goal
 pub returns-in_err-n : goal.returns-in_err-n
 returns-in_err-n c =
     let kept = walk-refusing c.args.b.now c.args.place c.args.out.now _ c.in_err-n.ensures in
-    record { result_value = exits (λ n. n) _ _ c.from_residual.ensures.1 ∙ kept.0; out_after = kept.1 }
+    record { result_value = passed (λ n. n) _ _ c.from_residual.ensures ∙ kept.0; out_after = kept.1 }
 
 pub returns : goal.returns
 unfolding walked_over

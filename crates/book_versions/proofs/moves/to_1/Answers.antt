@@ -3,7 +3,7 @@ use Rattle.std.proofs.Common.{sym, ◌∙◌, arith}
 use Rattle.requests.specs.Second.{version2}
 use Rattle.requests.specs.Moves.{downward}
 use Rattle.requests.proofs.OnSecond.FieldEntryLaws.{version2-sensible}
-use Rattle.frame.proofs.Refusing.{exits}
+use Rattle.refusals.proofs.RefusalLaws.{passed}
 use Rattle.book_versions.proofs.RecastLaws.{ones-count}
 use Rattle.book_versions.proofs.MovesBy.{move-refusing, move-lays, ones-fit, ones-few, down-stops, down-ones}
 use Rattle.book_versions.proofs.moves.to_1.Goals as goal
@@ -11,7 +11,7 @@ use Rattle.book_versions.proofs.moves.to_1.Goals as goal
 pub returns-in_err-n : goal.returns-in_err-n
 returns-in_err-n c =
     let kept = move-refusing downward c.args.from.now c.args.to.now _ (sym c.in_err-n.ensures) in
-    record { result_value = exits (λ n. n) _ _ c.from_residual.ensures.1 ∙ kept.0; to_after = kept.1 }
+    record { result_value = passed (λ n. n) _ _ c.from_residual.ensures ∙ kept.0; to_after = kept.1 }
 
 pub first_bad-more-requires : goal.first_bad-more-requires
 first_bad-more-requires c =

@@ -3,7 +3,7 @@ use Rattle.std.proofs.Common.{sym, ◌∙◌, arith}
 use Rattle.rules.specs.Book.{version1}
 use Rattle.rules.proofs.OnBook.EntryLaws.{version1-sensible}
 use Rattle.requests.specs.Moves.{upward}
-use Rattle.frame.proofs.Refusing.{exits}
+use Rattle.refusals.proofs.RefusalLaws.{passed}
 use Rattle.book_versions.proofs.RecastLaws.{ones-count}
 use Rattle.book_versions.proofs.MovesBy.{move-refusing, move-lays, ones-fit, ones-few, up-ones}
 use Rattle.book_versions.proofs.moves.to_2.Goals as goal
@@ -11,7 +11,7 @@ use Rattle.book_versions.proofs.moves.to_2.Goals as goal
 pub returns-in_err-n : goal.returns-in_err-n
 returns-in_err-n c =
     let kept = move-refusing upward c.args.from.now c.args.to.now _ (sym c.in_err-n.ensures) in
-    record { result_value = exits (λ n. n) _ _ c.from_residual.ensures.1 ∙ kept.0; to_after = kept.1 }
+    record { result_value = passed (λ n. n) _ _ c.from_residual.ensures ∙ kept.0; to_after = kept.1 }
 
 pub lay-requires : goal.lay-requires
 lay-requires c =

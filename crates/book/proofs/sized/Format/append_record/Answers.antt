@@ -2,7 +2,7 @@
 use Rattle.std.proofs.Common.{length, refl, sym, ap, ◌∙◌, arith}
 use Rattle.std.proofs.Math.Seq.{take-length}
 use Rattle.rules.proofs.OnBook.AppendAnswers.{append-full, append-short, append-untaken, append-writes}
-use Rattle.frame.proofs.Refusing.{exits}
+use Rattle.refusals.proofs.RefusalLaws.{passed}
 use Rattle.book.specs.Views.{sound_sized, book_of}
 use Rattle.book.proofs.Laws.{count-tells, append-refused}
 use Rattle.book.proofs.sized.Format.append_record.Goals as goal
@@ -12,7 +12,7 @@ returns-in_err-n c =
     let f = c.args.self in
     let p = c.requires in
     let kept = append-refused (length c.args.piece.now) f.frame.most f.frame.version f.plain p.0 p.1 c.args.b.now _ (sym c.in_err-n.ensures) c.args.piece.now in
-    record { result_value = exits (λ n. n) _ _ c.from_residual.ensures.1 ∙ kept.0; b_after = kept.1 }
+    record { result_value = passed (λ n. n) _ _ c.from_residual.ensures ∙ kept.0; b_after = kept.1 }
 
 pub returns-then-self-n : goal.returns-then-self-n
 returns-then-self-n c =

@@ -4,7 +4,7 @@ use Rattle.rules.proofs.OnBook.FrameLaws.{count_fits}
 use Rattle.rules.proofs.OnBook.BookLaws.{one-bad, all-good}
 use Rattle.frame.specs.Views.{frame_of}
 use Rattle.frame.proofs.Counts.{counted_is}
-use Rattle.frame.proofs.Refusing.{exits}
+use Rattle.refusals.proofs.RefusalLaws.{passed}
 use Rattle.book.specs.Views.{book_of}
 use Rattle.book.proofs.Laws.{sensible, frame-refused}
 use Rattle.book.proofs.sized.Format.check_of.Goals as goal
@@ -13,7 +13,7 @@ pub returns-in_err-n : goal.returns-in_err-n
 returns-in_err-n c =
     let f = c.args.self in
     let p = c.requires in
-    exits (λ n. n) _ _ c.from_residual.ensures.1
+    passed (λ n. n) _ _ c.from_residual.ensures
     ∙ sym (frame-refused f.frame.size f.frame.most f.frame.version f.plain p.0 p.1 c.args.b.now _ (sym c.in_err-n.ensures))
 
 pub first_bad-bad-requires : goal.first_bad-bad-requires

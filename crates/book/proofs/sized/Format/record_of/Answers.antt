@@ -1,7 +1,7 @@
 -- What the check refuses is refused here, and else the book was checked.
 use Rattle.std.proofs.Common.{sym, ap, ◌∙◌}
 use Rattle.rules.specs.Refusals.{given}
-use Rattle.frame.proofs.Refusing.{exits}
+use Rattle.refusals.proofs.RefusalLaws.{passed}
 use Rattle.book.specs.Views.{record_as}
 use Rattle.book.proofs.Laws.{entry-refused}
 use Rattle.book.proofs.sized.Format.record_of.Goals as goal
@@ -15,5 +15,5 @@ pub returns-in_err-check_of : goal.returns-in_err-check_of
 returns-in_err-check_of c =
     let f = c.args.self in
     let p = c.requires in
-    exits record_as _ _ c.from_residual.ensures.1
+    passed record_as _ _ c.from_residual.ensures
     ∙ sym (entry-refused f.frame.size f.frame.most f.frame.version f.plain p.0 p.1 c.args.b.now _ (sym c.in_err-check_of.ensures) c.args.place)

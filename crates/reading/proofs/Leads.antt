@@ -11,6 +11,7 @@ use lib.IntN.{ℤ, pos, nat_abs}
 use lib.ListN.{drop}
 use Rattle.sign.specs.Halves.{dn}
 use Rattle.sign.proofs.Laws.{ints, one_side, yes_le, no_le}
+use Rattle.std.specs.Prelude.{Option, Some, None}
 use Rattle.rules.specs.Words.{minus, within_z, fits16, fits32}
 use Rattle.rules.specs.Refusals.{Answer, Gives, Refused, RefusedAt, ◌then◌, demand, not_text}
 use Rattle.rules.specs.Kinds.{Fields}
@@ -18,7 +19,6 @@ use Rattle.rules.specs.Text.{Read, leading}
 use Rattle.scalar.specs.Number.{most63, leading_number}
 use Rattle.scalar.specs.Views.{leading_as}
 use Rattle.scalar.specs.declared.Leading.{Leading}
-use Rattle.scalar.specs.declared.Leading.TheVariants as L
 
 -- ---- a number of more than 63 bits
 
@@ -65,11 +65,11 @@ module _ (next : Read ℤ → Answer Fields) (out : (r : Read ℤ) → most63 < 
   lead-some (RefusedAt n place) r e = let z : ◌≡◌ {A = ℕ} 0 1 = cc in absurd (omega arith)
 
   -- from what the code's call ensures: a refused leading number ends the reading, else what follows decides
-  module _ (s : List ℕ) {lead : Leading} (is-led : leading_as s lead ≡ leading_number s) where
-    pub led-none : lead ≡ L.Refused → (leading s then next) ≡ Refused not_text
+  module _ (s : List ℕ) {lead : Option Leading} (is-led : leading_as s lead ≡ leading_number s) where
+    pub led-none : lead ≡ None → (leading s then next) ≡ Refused not_text
     unfolding leading_number
     led-none e = lead-none (leading s) (sym is-led ∙ ap (leading_as s) e)
 
-    pub led-some : {v : ℤ} {i : ℕ} → lead ≡ L.Number v i → (leading s then next) ≡ next (record { value = v; rest = drop i s })
+    pub led-some : {r : Leading} → lead ≡ Some r → (leading s then next) ≡ next (record { value = r.value; rest = drop r.next s })
     unfolding leading_number
     led-some e = lead-some (leading s) _ (sym is-led ∙ ap (leading_as s) e)

@@ -2,14 +2,11 @@
 use mathlib.Core.Path.{◌≡◌, sym, ap, ◌∙◌}
 use mathlib.Core.Bool.{true, false}
 use mathlib.Core.List.{List, [], ◌∷◌}
-use Prim.Native.Nat.{ℕ, ◌≤◌, ◌<◌, ◌^◌}
+use Prim.Native.Nat.{ℕ, ◌≤◌, ◌<◌}
 use borrow.Author.Tests.{le-leb}
 use lib.IntN.{ℤ, nat_abs}
 use lib.ListN.{length, drop}
-use lib.Signed.{mag}
-use mir.Syntax.{w64}
-use mir.Val.{to_z, of_z, hbits}
-use Rattle.sign.proofs.Bits.{held}
+use Rattle.std.specs.Prelude.{Option, Some, None}
 use Rattle.rules.specs.Refusals.{Answer, Refused, ◌then◌, too_long, not_text}
 use Rattle.rules.specs.Kinds.{Kind, Stored, store}
 use Rattle.rules.specs.Text.{Read, shape_allowed, leading, text_limit, read_text}
@@ -17,9 +14,6 @@ use Rattle.rules.proofs.OnText.LeadingLaws.{after_leading, dotted-out, number-ou
 use Rattle.scalar.specs.Number.{most63, leading_number}
 use Rattle.scalar.specs.Views.{leading_as}
 use Rattle.scalar.specs.declared.Leading.{Leading}
-use Rattle.scalar.specs.declared.Leading.TheVariants as L
-use Rattle.kinds.specs.Views.{made_as}
-use Rattle.kinds.specs.declared.Made.{Made}
 use Rattle.reading.proofs.Leads.{no-year, no_number, led-none, led-some}
 
 -- ---- what follows the leading number
@@ -51,13 +45,9 @@ module _ (k : Kind) (s : List ℕ) where
       reads = ap store (by-leading k s fits shape)
 
       -- what the code answers, from what its two calls ensure
-      module _ {lead : Leading} (is-led : leading_as s lead ≡ leading_number s) where
-        pub lead-refused : lead ≡ L.Refused → Refused not_text ≡ text_date
+      module _ {lead : Option Leading} (is-led : leading_as s lead ≡ leading_number s) where
+        pub lead-refused : lead ≡ None → Refused not_text ≡ text_date
         lead-refused e = sym (reads ∙ ap store (led-none (after_leading k) (rest_out k) s is-led e))
 
-        -- the number comes to the second call as its 64 bits
-        pub rest_read : {v : ℤ} {next : ℕ} {read r : Made} → lead ≡ L.Number v next → mag v < 2 ^ hbits w64 →
-            made_as not_text read ≡ store (after_leading k (record { value = to_z w64 (of_z w64 v); rest = drop next s })) →
-            read ≡ r → made_as not_text r ≡ text_date
-        rest_read {v = v} e fit64 is_read same =
-            ap (made_as not_text) (sym same) ∙ (rw (held w64 {z = v} fit64) at is_read) ∙ sym (reads ∙ ap store (led-some (after_leading k) (rest_out k) s is-led e))
+        pub rest_read : {r : Leading} → lead ≡ Some r → store (after_leading k (record { value = r.value; rest = drop r.next s })) ≡ text_date
+        rest_read e = sym (reads ∙ ap store (led-some (after_leading k) (rest_out k) s is-led e))

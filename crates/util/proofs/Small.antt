@@ -1,5 +1,5 @@
 -- n digits are less than 10 ^ n. Assumes nothing.
-use Rattle.std.proofs.Common.{◌≡◌, ℕ, suc, ◌+◌, ◌-◌, ◌*◌, ◌^◌, ◌<◌, ◌≤◌, true, leb, List, [], ◌∷◌, length, mul-le-mul_right, arith, lit<, leb-true}
+use Rattle.std.proofs.Common.{◌≡◌, ℕ, ◌-◌, ◌^◌, ◌<◌, ◌≤◌, true, leb, List, [], ◌∷◌, length, mul-le-mul_right, arith, lit<, leb-true}
 use mathlib.Core.Bool.{and-eq-true_iff}
 use native.Mathlib.Nat.{pow-succ'}
 use Rattle.rules.specs.Text.{is_digit, decimal_value}

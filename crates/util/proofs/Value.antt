@@ -1,5 +1,5 @@
 -- The value of `value_of`: eight digits joined to pairs, the pairs to fours, and the fours to the eight. Assumes nothing.
-use Rattle.std.proofs.Common.{◌≡◌, ℕ, zero, suc, ◌+◌, ◌-◌, ◌*◌, ◌/◌, ◌%◌, ◌^◌, ◌<◌, ◌≤◌, true, leb, List, [], ◌∷◌, length, ap, ◌∙◌, ap₂, arith, lit<, lit≤, leb-true}
+use Rattle.std.proofs.Common.{◌≡◌, ℕ, zero, suc, ◌+◌, ◌-◌, ◌*◌, ◌/◌, ◌%◌, ◌^◌, ◌≤◌, true, leb, List, [], ◌∷◌, length, ap, ◌∙◌, ap₂, arith, lit<, lit≤, leb-true}
 use mathlib.Core.Bool.{and-eq-true_iff}
 use lib.Bits.{bit_and, and_zero_r, and_le_r, and_mask}
 use Rattle.rules.specs.Text.{is_digit, decimal_value}

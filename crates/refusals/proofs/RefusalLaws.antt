@@ -1,5 +1,5 @@
 -- What every refusal is as an answer, whichever it is. Assumes nothing.
-use Rattle.std.specs.Prelude.{◌≡◌, refl, false, Option, Some, None, Result, Ok, Err, ok_or, IsErr, IsErrAnd}
+use Rattle.std.specs.Prelude.{◌≡◌, refl, false, Option, Some, None, Result, Ok, Err, true, ok_or, IsOk, IsErr, IsErrAnd}
 use Rattle.std.specs.Result.{result_ok}
 use Rattle.std.proofs.Common.{rules, sym, ap, ◌∙◌}
 use Rattle.rules.specs.Refusals.{Answer, ◌then◌, given}
@@ -66,3 +66,10 @@ some-of e None told is = ap result_ok (sym told ∙ is)
 pub none-of : {T E : Type 0} (e : E) (o : Option T) {r : Result T E} {q : E} → r ≡ ok_or o e → r ≡ Err q → o ≡ None
 none-of e (Some u) told is = ap result_ok (sym told ∙ is)
 none-of e None told is = refl
+
+-- ---- a value
+
+-- where the answer gives one, there is one
+pub is-ok : {T A : Type 0} (f : T → A) (r : Result T Refusal) → given (result_as f r) ≡ true → IsOk r
+is-ok f (Ok value) g = refl
+is-ok f (Err e) g = search (rules, sym (refused _ e) ∙ g)

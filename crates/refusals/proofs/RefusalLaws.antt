@@ -62,10 +62,22 @@ pub some-of : {T E : Type 0} (e : E) (o : Option T) {r : Result T E} {t : T} →
 some-of e (Some u) told is = ap result_ok (sym told ∙ is)
 some-of e None told is = ap result_ok (sym told ∙ is)
 
--- and what it gave the refusal for was not
-pub none-of : {T E : Type 0} (e : E) (o : Option T) {r : Result T E} {q : E} → r ≡ ok_or o e → r ≡ Err q → o ≡ None
-none-of e (Some u) told is = ap result_ok (sym told ∙ is)
-none-of e None told is = refl
+-- what it gave the refusal for was not there, and `?` hands on that refusal
+absent : {T E : Type 0} (e : E) (o : Option T) {r : Result T E} {q : E} → r ≡ ok_or o e → r ≡ Err q → o ≡ None
+absent e (Some u) told is = ap result_ok (sym told ∙ is)
+absent e None told is = refl
+
+abbrev error_in : {T E : Type 0} → E → Result T E → E
+error_in q (Ok t) = q
+error_in q (Err p) = p
+
+same-error : {T E : Type 0} (e : E) (o : Option T) {r : Result T E} {q : E} → r ≡ ok_or o e → r ≡ Err q → q ≡ e
+same-error e (Some u) {q = q} told is = search (rules, sym told ∙ is)
+same-error e None {q = q} told is = ap (error_in q) (sym is ∙ told)
+
+pub none-of : {T U A : Type 0} (f : U → A) (e : Refusal) (o : Option T) (s : Result U Refusal) {r : Result T Refusal} {q : Refusal} →
+    r ≡ ok_or o e → r ≡ Err q → IsErr s × IsErrAnd s (λ p. p ≡ q) → (o ≡ None) × (result_as f s ≡ refusal_as e)
+none-of f e o s {q = q} told is gone = (absent e o told is, passed f q s gone ∙ ap refusal_as (same-error e o told is))
 
 -- ---- a value
 

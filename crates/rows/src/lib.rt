@@ -7,6 +7,7 @@ ghost use Rattle.rows.specs.Rows.{first_byte, after_byte, after_word, ends_row, 
 ghost use Rattle.rows.specs.Views.{number_as, whole_as};
 
 // A place past the end of every slice.
+// Kept (point 1): no Option stands for it. Readers are nested, place in place, and a row is tested once at its end; an Option would be unpacked at each of them, and `drop result s` in the contracts would need a view.
 pub const NOWHERE: usize = 0xffff_ffff_ffff_ffff;
 
 // up - dn, of which one is 0, and the place after it.
@@ -15,6 +16,22 @@ pub struct Number {
     pub up: u64,
     pub dn: u64,
     pub next: usize,
+}
+
+impl Number {
+    // No number, and nothing after it.
+    const NOTHING: Self = Self {
+        up: 0,
+        dn: 0,
+        next: NOWHERE,
+    };
+
+    // A number that is not below 0.
+    fn found(up: u64, next: usize) -> Self
+        ensures { (result.up ≡ up) × (result.dn ≡ 0) × (result.next ≡ next) }
+    {
+        Self { up, dn: 0, next }
+    }
 }
 
 // A number of 32 bits, and the place after it.
@@ -33,43 +50,33 @@ pub fn next_line(s: &[u8], from: usize) -> usize
         return from;
     }
     let end = spans::find(s, from, s.len(), b'\n');
-    if end < s.len() {
-        return end + 1;
-    }
-    end
+    if end < s.len() { end + 1 } else { end }
 }
 
 // The byte at a place, 0 past the end.
 pub fn byte(s: &[u8], at: usize) -> u8
     ensures { result ≡ first_byte (drop at s.now) }
 {
-    if at < s.len() {
-        return s[at];
-    }
-    0
+    s.get(at).copied().unwrap_or(0)
 }
 
 // The place after a byte that must stand at a place.
 pub fn after(s: &[u8], at: usize, b: u8) -> usize
     ensures { drop result s.now ≡ after_byte b (drop at s.now) }
 {
-    if at < s.len() {
-        if s[at] == b {
-            return at + 1;
-        }
+    match s.get(at) {
+        Some(found) if *found == b => at + 1,
+        _ => NOWHERE,
     }
-    NOWHERE
 }
 
 // The place after a word that must stand at a place.
 pub fn after_word(s: &[u8], at: usize, word: &[u8]) -> usize
     ensures { drop result s.now ≡ after_word word.now (drop at s.now) }
 {
-    let mut i = 0;
     let mut place = at;
-    while i < word.len() {
-        place = after(s, place, word[i]);
-        i += 1;
+    for b in word {
+        place = after(s, place, *b);
     }
     place
 }
@@ -78,64 +85,38 @@ pub fn after_word(s: &[u8], at: usize, word: &[u8]) -> usize
 pub fn ends(s: &[u8], at: usize) -> bool
     ensures { result ≡ ends_row (drop at s.now) }
 {
-    if at < s.len() {
-        if s[at] == b'\n' {
-            return s.len() <= at + 1;
-        }
-    }
-    false
-}
-
-fn nothing(s: &[u8]) -> Number
-    ensures { number_as s.now result ≡ no_number }
-{
-    Number {
-        up: 0,
-        dn: 0,
-        next: NOWHERE,
+    match s.get(at) {
+        Some(b'\n') => s.len() <= at + 1,
+        _ => false,
     }
 }
 
+// Whether a digit stands at a place.
 fn digit_at(s: &[u8], at: usize) -> bool
     ensures { result ≡ starts_with_digit (drop at s.now) }
 {
-    if at < s.len() {
-        let b = s[at];
-        if b'0' <= b {
-            return b <= b'9';
-        }
+    match s.get(at) {
+        Some(b) => b.is_ascii_digit(),
+        None => false,
     }
-    false
 }
 
 // The digits from a place on, of a value of at most 18 digits.
 fn digits(s: &[u8], from: usize) -> Number
     ensures { number_as s.now result ≡ numbered (row_digits 0 (drop from s.now)) }
 {
-    let mut value: u64 = 0;
-    let mut at = from;
-    while at < s.len() {
+    let mut value = 0;
+    for at in from..s.len() {
         let b = s[at];
-        if b < b'0' {
-            return found(value, at);
-        }
-        if b'9' < b {
-            return found(value, at);
+        if !b.is_ascii_digit() {
+            return Number::found(value, at);
         }
         if 99_999_999_999_999_999 < value {
-            return nothing(s);
+            return Number::NOTHING;
         }
-        value = value * 10 + (b - b'0') as u64;
-        at += 1;
+        value = value * 10 + u64::from(b - b'0');
     }
-    found(value, at)
-}
-
-// A number that is not below 0.
-fn found(up: u64, next: usize) -> Number
-    ensures { (result.up ≡ up) × (result.dn ≡ 0) × (result.next ≡ next) }
-{
-    Number { up, dn: 0, next }
+    Number::found(value, s.len())
 }
 
 // At least one digit.
@@ -143,46 +124,41 @@ pub fn natural(s: &[u8], at: usize) -> Number
     ensures { number_as s.now result ≡ natural_of (drop at s.now) }
 {
     if digit_at(s, at) {
-        return digits(s, at);
+        digits(s, at)
+    } else {
+        Number::NOTHING
     }
-    nothing(s)
 }
 
 // Digits, with or without a minus.
 pub fn signed(s: &[u8], at: usize) -> Number
     ensures { number_as s.now result ≡ signed_of (drop at s.now) }
 {
-    if byte(s, at) == b'-' {
-        let n = natural(s, after(s, at, b'-'));
-        let size = n.up;
-        let next = n.next;
-        return Number {
-            up: 0,
-            dn: size,
-            next,
-        };
+    if byte(s, at) != b'-' {
+        return natural(s, at);
     }
-    natural(s, at)
+    let n = natural(s, after(s, at, b'-'));
+    Number {
+        up: 0,
+        dn: n.up,
+        next: n.next,
+    }
 }
 
 // A number of 32 bits.
 pub fn whole32(s: &[u8], at: usize) -> Whole
     ensures { whole_as s.now result ≡ whole_of (drop at s.now) }
 {
-    let n = signed(s, at);
-    let up = n.up;
-    let dn = n.dn;
-    let next = n.next;
-    if up <= 2147483647 {
-        if dn <= 2147483648 {
-            return Whole {
-                value: sign::int32(up, dn),
-                next,
-            };
+    let Number { up, dn, next } = signed(s, at);
+    if up <= 2147483647 && dn <= 2147483648 {
+        Whole {
+            value: sign::int32(up, dn),
+            next,
         }
-    }
-    Whole {
-        value: 0,
-        next: NOWHERE,
+    } else {
+        Whole {
+            value: 0,
+            next: NOWHERE,
+        }
     }
 }

@@ -30,8 +30,8 @@ module _ (y : ℤ) (lo hi : ℕ) where
   in-range : (up y ≤ hi) × (dn y ≤ lo) → within_z (minus lo) (pos hi) y ≡ true
   in-range h = rw (yes_le (minus lo) y (simp ints (omega (arith, one_side y))), yes_le y (pos hi) (omega (arith, one_side y)))
 
-  range-tells : within_z (minus lo) (pos hi) y ≡ true → (up y ≤ hi) × (dn y ≤ lo)
-  range-tells e =
+  pub fits_in : within_z (minus lo) (pos hi) y ≡ true → (up y ≤ hi) × (dn y ≤ lo)
+  fits_in e =
       let l = simp ints at (le-true (minus lo) y (left (le_z (minus lo) y) (le_z y (pos hi)) e)) in
       let h = le-true y (pos hi) (right (le_z (minus lo) y) (le_z y (pos hi)) e) in
       omega (arith, l, h, one_side y)
@@ -51,11 +51,11 @@ module _ {E : Type 0} (y : ℤ) (r : Result ℤ E) where
 
   pub not-held32 : OkIff r (SFits w32 y) y → None ≡ result_ok r → fits32 y ≡ false
   not-held32 told e =
-      by-test (fits32 y) (λ p. let t = range-tells y 2147483648 2147483647 p in fits-from w32 y (omega arith) (omega arith)) (outside (SFits w32 y) y r told (sym e))
+      by-test (fits32 y) (λ p. let t = fits_in y 2147483648 2147483647 p in fits-from w32 y (omega arith) (omega arith)) (outside (SFits w32 y) y r told (sym e))
 
   pub not-held16 : OkIff r (SFits w16 y) y → None ≡ result_ok r → fits16 y ≡ false
   not-held16 told e =
-      by-test (fits16 y) (λ p. let t = range-tells y 32768 32767 p in fits-from w16 y (omega arith) (omega arith)) (outside (SFits w16 y) y r told (sym e))
+      by-test (fits16 y) (λ p. let t = fits_in y 32768 32767 p in fits-from w16 y (omega arith) (omega arith)) (outside (SFits w16 y) y r told (sym e))
 
 -- ---- a number text
 

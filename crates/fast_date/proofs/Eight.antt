@@ -7,33 +7,32 @@ use native.Mathlib.Omega.{arith}
 use mir.Syntax.{w16}
 use mir.Val.{to_z}
 use mir.ValLaws.{to_z_pos}
-use Rattle.std.specs.Prelude.{Option}
+use Rattle.std.specs.Prelude.{Option, Some, None}
 use Rattle.rules.specs.Refusals.{Answer, not_text}
 use Rattle.rules.specs.Kinds.{kD, Stored, settled, store}
 use Rattle.rules.specs.Text.{decimal_value, read_text}
 use Rattle.util.specs.Word.{all_digits}
 use Rattle.util.specs.Parse.{parsed}
-use Rattle.util.specs.declared.Parsed.TheVariants.{Value, NotDigits}
 use Rattle.kinds.specs.Views.{made_as}
 use Rattle.kinds.specs.declared.Packed.{Packed}
 use Rattle.fast_date.specs.Fast.{fast_shape, quickly, Answers, Silent, eight}
 
-pub parsed-some : (bs : List ℕ) (v : ℕ) → Value v ≡ parsed bs → (all_digits bs ≡ true) × (decimal_value bs ≡ v)
+pub parsed-some : (bs : List ℕ) (v : ℕ) → Some v ≡ parsed bs → (all_digits bs ≡ true) × (decimal_value bs ≡ v)
 parsed-some bs v e = split (all_digits bs) e
   where
-    split : (t : Bool) → Value v ≡ cond t (Value (decimal_value bs)) NotDigits → (t ≡ true) × (decimal_value bs ≡ v)
+    split : (t : Bool) → Some v ≡ cond t (Some (decimal_value bs)) None → (t ≡ true) × (decimal_value bs ≡ v)
     split true p = (refl, cc)
     split false p = let z : ◌≡◌ {A = ℕ} 0 1 = cc in absurd (omega arith)
 
-pub parsed-none : (bs : List ℕ) → NotDigits ≡ parsed bs → all_digits bs ≡ false
+pub parsed-none : (bs : List ℕ) → None ≡ parsed bs → all_digits bs ≡ false
 parsed-none bs e = split (all_digits bs) e
   where
-    split : (t : Bool) → NotDigits ≡ cond t (Value (decimal_value bs)) NotDigits → t ≡ false
+    split : (t : Bool) → None ≡ cond t (Some (decimal_value bs)) None → t ≡ false
     split true p = let z : ◌≡◌ {A = ℕ} 0 1 = cc in absurd (omega arith)
     split false p = refl
 
 -- the date made of eight digits' value, whose year comes to the maker as 16 bits, is their answer
-pub eight-told : (bs : List ℕ) (v : ℕ) (made : Option Packed) → Value v ≡ parsed bs → v < 100000000 →
+pub eight-told : (bs : List ℕ) (v : ℕ) (made : Option Packed) → Some v ≡ parsed bs → v < 100000000 →
     ((n : ℕ) → made_as n made ≡ store (settled kD n (record { year = to_z w16 (v / 10000); month = v / 100 % 100; day = v % 100; hour = 0 }))) →
     Answers (made_as not_text made) ≡ eight bs
 unfolding eight

@@ -2,18 +2,15 @@
 #![tactic(auto)]
 
 ghost use Rattle.std.specs.Prelude.{◌≡◌};
-ghost use Rattle.util.specs.Word.{bytes_of};
 ghost use Rattle.fast_date.specs.Fast.{quick, eight, quickly};
 
 use kinds::{ExpandedRawDate, Kind, Packed};
 
 // The date of eight bytes YYYYMMDD or none, if all are digits.
-fn fast_digits(word: u64) -> Option<Option<Packed>>
-    ensures { quick result ≡ eight (bytes_of 8 word) }
+fn fast_digits(digits: [u8; 8]) -> Option<Option<Packed>>
+    ensures { quick result ≡ eight digits }
 {
-    let util::Parsed::Value(v) = util::fast_digit_parse(word) else {
-        return None;
-    };
+    let v = util::fast_digit_parse(util::from_le_bytes(digits))?;
     let fields = ExpandedRawDate {
         year: (v / 10000) as i16,
         month: (v / 100 % 100) as u8,
@@ -27,12 +24,12 @@ fn fast_digits(word: u64) -> Option<Option<Packed>>
 pub fn fast_parse(s: &[u8]) -> Option<Option<Packed>>
     ensures { quick result ≡ quickly s.now }
 {
-    let word = match *s {
-        [a, b, c, d, b'.', e, f, b'.', g, h] => util::from_le_bytes(a, b, c, d, e, f, g, h),
-        [a, b, c, d, b'.', e, f, b'.', h] => util::from_le_bytes(a, b, c, d, e, f, b'0', h),
-        [a, b, c, d, b'.', f, b'.', g, h] => util::from_le_bytes(a, b, c, d, b'0', f, g, h),
-        [a, b, c, d, b'.', f, b'.', h] => util::from_le_bytes(a, b, c, d, b'0', f, b'0', h),
+    let digits = match *s {
+        [a, b, c, d, b'.', e, f, b'.', g, h] => [a, b, c, d, e, f, g, h],
+        [a, b, c, d, b'.', e, f, b'.', h] => [a, b, c, d, e, f, b'0', h],
+        [a, b, c, d, b'.', f, b'.', g, h] => [a, b, c, d, b'0', f, g, h],
+        [a, b, c, d, b'.', f, b'.', h] => [a, b, c, d, b'0', f, b'0', h],
         _ => return None,
     };
-    fast_digits(word)
+    fast_digits(digits)
 }

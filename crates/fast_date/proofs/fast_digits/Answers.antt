@@ -1,11 +1,11 @@
-use mathlib.Core.Path.{sym, ◌∙◌}
+-- `fast_date::fast_digits` meets its contract: the value of eight digits, taken apart. Assumes nothing.
 use Rattle.fast_date.specs.Fast.{eight}
 use Rattle.fast_date.proofs.Eight.{eight-told, parsed-none}
 use Rattle.fast_date.proofs.fast_digits.Goals as goal
 
-pub returns-in_default : goal.returns-in_default
+pub returns-in_err-v : goal.returns-in_err-v
 unfolding eight
-returns-in_default c = rw (parsed-none _ (sym c.in_default.is ∙ c.fast_digit_parse.ensures.value))
+returns-in_err-v c = rw (parsed-none _ (rw c.from_le_bytes.ensures at c.in_err-v.ensures.value), c.from_residual.ensures)
 
 pub returns : goal.returns
-returns c = eight-told _ c.in-Value.v _ c.in-Value.ensures.value c.in-Value.ensures.result_bound c.settle.ensures
+returns c = eight-told _ c.in_ok-v.v _ (rw c.from_le_bytes.ensures at c.in_ok-v.ensures.value) c.in_ok-v.ensures.result_bound c.settle.ensures

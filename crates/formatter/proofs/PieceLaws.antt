@@ -1,25 +1,26 @@
 -- A separated number, by whether it has two digits; a year, by its sign; and the texts of `rules` as such pieces. Assumes nothing.
-use mathlib.Core.Path.{◌≡◌, refl, sym, ap, ◌∙◌}
+use mathlib.Core.Path.{◌≡◌, refl, ◌∙◌}
 use mathlib.Core.Bool.{Bool, true, false, cond}
 use mathlib.Core.List.{List, [], ◌∷◌, ◌++◌, append_assoc, append-nil}
 use Prim.Native.Nat.{ℕ, suc, ◌+◌, ◌-◌, ◌≤◌, ◌<◌}
 use native.Mathlib.Omega.{arith}
-use borrow.Author.Tests.{ne_eqb, le-leb, lt-leb}
+use borrow.Author.Tests.{ne_eqb, le-leb, lt-leb, leb-true, leb-false}
+use lib.Dec.{leb}
 use lib.IntN.{ℤ, pos, negsuc}
 use lib.ListN.{length}
+use Rattle.std.specs.Prelude.{Option}
 use Rattle.sign.specs.Halves.{Halved}
 use Rattle.rules.specs.Words.{byte, bytes}
 use Rattle.rules.specs.Refusals.{Gives}
 use Rattle.rules.specs.Kinds.{Kind, Fields, Stored, handed}
-use Rattle.rules.specs.Spelling.{digit, decimal, filled, plain_year, iso_year, exchange_year, dotted_pair, dotted_hour, dotted, iso_hour_before, iso_month_day, iso_hour, iso_date, iso, exchange}
+use Rattle.rules.specs.Spelling.{digit, filled, plain_year, iso_year, exchange_year, dotted_pair, dotted_hour, dotted, iso_hour_before, iso_month_day, iso_hour, iso_date, iso, exchange}
 use Rattle.rules.proofs.OnSpelling.DecimalLaws.{one-digit, two_digits, filled-one, filled-two}
 use Rattle.rules.proofs.OnKinds.KindLaws.{fit}
 use Rattle.rules.proofs.OnDays.OrderLaws.{day-small, hour-small}
 use Rattle.rules.proofs.OnKinds.PackLaws.{handed-tells}
-use Rattle.digits.specs.Places.{digits_in}
 use Rattle.formatter.specs.Pieces.{filled_year, year_text, separated, hour_text, text_of}
 use Rattle.formatter.specs.declared.pieces.Style.{Style}
-use Rattle.formatter.specs.declared.pieces.Hour.{Hour}
+use Rattle.formatter.specs.declared.pieces.Separated.{Separated}
 use Rattle.formatter.specs.declared.years.Year.{Year}
 
 -- ---- a separated number
@@ -35,6 +36,15 @@ separated-two s n e a b = rw (e, two_digits n a b, filled-two n b)
 pub separated-one : (s : Style) (n : ℕ) → s.wide ≡ false → n < 10 → separated s n ≡ s.separator ∷ digit n ∷ []
 unfolding separated
 separated-one s n e a = rw (e, one-digit n a)
+
+-- by the number alone
+pub separated-by : (s : Style) (n : ℕ) → s.wide ≡ false → n < 100 →
+    separated s n ≡ cond (leb 10 n) (s.separator ∷ filled 2 n) (s.separator ∷ digit n ∷ [])
+separated-by s n e h = split (leb 10 n) refl
+  where
+    split : (t : Bool) → leb 10 n ≡ t → separated s n ≡ cond t (s.separator ∷ filled 2 n) (s.separator ∷ digit n ∷ [])
+    split true p = separated-two s n e (leb-true 10 n p) h
+    split false p = separated-one s n e (leb-false 10 n p)
 
 -- what it needs of a buffer of m bytes
 pub two-room : {t : Bool} (s : Style) (n m : ℕ) → n < 100 → separated s n ≡ cond t (s.separator ∷ filled 2 n) (s.separator ∷ digit n ∷ []) → t ≡ true
@@ -84,28 +94,28 @@ lowered h = let back : h + 1 - 1 ≡ h = omega arith in rw (ne_eqb (h + 1) 0 (λ
 abbrev iso_style : Style
 iso_style = record { separator = byte "-"; wide = true }
 
-pub dotted-pieces : (k : Kind) (f : Fields) (y : Year) (s : Style) (h : Hour) → year_text y ≡ plain_year f.year
+pub dotted-pieces : (k : Kind) (f : Fields) (y : Year) (s : Style) (h : Option Separated) → year_text y ≡ plain_year f.year
     → ((n : ℕ) → separated s n ≡ bytes "." ++ dotted_pair k n) → hour_text h ≡ dotted_hour f.hour
     → text_of y s f.month f.day h ≡ dotted k f
 unfolding text_of dotted
 dotted-pieces k f y s h e p q = rw (e, p f.month, p f.day, q) (simp append_assoc)
 
-iso-pieces : (f : Fields) (y : Year) (h : Hour) {year hour : List ℕ} → year_text y ≡ year → hour_text h ≡ hour
+iso-pieces : (f : Fields) (y : Year) (h : Option Separated) {year hour : List ℕ} → year_text y ≡ year → hour_text h ≡ hour
     → text_of y iso_style f.month f.day h ≡ year ++ iso_month_day f ++ hour
 unfolding text_of separated iso_month_day
 iso-pieces f y h e q = rw (e, q) (simp append_assoc)
 
-pub iso-text : (k : Kind) (f : Fields) (y : Year) (h : Hour) → year_text y ≡ iso_year f.year → hour_text h ≡ iso_hour k f.hour
+pub iso-text : (k : Kind) (f : Fields) (y : Year) (h : Option Separated) → year_text y ≡ iso_year f.year → hour_text h ≡ iso_hour k f.hour
     → text_of y iso_style f.month f.day h ≡ iso k f
 unfolding iso iso_date
 iso-text k f y h e q = iso-pieces f y h e q
 
-pub exchange-text : (k : Kind) (f : Fields) (y : Year) (h : Hour) → year_text y ≡ exchange_year f.year → hour_text h ≡ iso_hour k f.hour
+pub exchange-text : (k : Kind) (f : Fields) (y : Year) (h : Option Separated) → year_text y ≡ exchange_year f.year → hour_text h ≡ iso_hour k f.hour
     → text_of y iso_style f.month f.day h ≡ exchange k f
 unfolding exchange
 exchange-text k f y h e q = iso-pieces f y h e q
 
-pub date-text : (f : Fields) (y : Year) (h : Hour) → year_text y ≡ iso_year f.year → hour_text h ≡ []
+pub date-text : (f : Fields) (y : Year) (h : Option Separated) → year_text y ≡ iso_year f.year → hour_text h ≡ []
     → text_of y iso_style f.month f.day h ≡ iso_date f
 unfolding iso_date
 date-text f y h e q = iso-pieces f y h e q ∙ append-nil _

@@ -2,7 +2,7 @@
 ghost use Rattle.std.specs.Prelude.{◌≡◌, cond, [], ◌∷◌, ◌≤◌, ◌<◌, length};
 ghost use Rattle.rules.specs.Spelling.{digit, filled};
 ghost use Rattle.digits.specs.Places.{placed};
-ghost use Rattle.formatter.specs.Pieces.{separated, hour_text};
+ghost use Rattle.formatter.specs.Pieces.{separated, hour_value, hour_text};
 
 // The separator before a number, and whether the number has always two digits.
 #[derive(Clone, Copy)]
@@ -11,10 +11,9 @@ pub(crate) struct Style {
     pub(crate) wide: bool,
 }
 
-// An hour, if it is shown.
+// A number behind its separator: an hour that is shown.
 #[derive(Clone, Copy)]
-pub(crate) struct Hour {
-    pub(crate) shown: bool,
+pub(crate) struct Separated {
     pub(crate) style: Style,
     pub(crate) value: u8,
 }
@@ -27,10 +26,7 @@ fn takes_two(style: Style, n: u8) -> bool
     if style.wide {
         return true;
     }
-    if 10 <= n {
-        return true;
-    }
-    false
+    10 <= n
 }
 
 // How many bytes a separated number has.
@@ -60,22 +56,22 @@ pub(crate) fn put_separated(out: &mut [u8], style: Style, n: u8)
 }
 
 // How many bytes an hour has, none where it is not shown.
-pub(crate) fn hour_length(hour: Hour) -> usize
-    requires { hour.value < 100 }
+pub(crate) fn hour_length(hour: Option<Separated>) -> usize
+    requires { hour_value hour < 100 }
     ensures value { result ≡ length (hour_text hour) }
     ensures upper_bound { result ≤ 3 }
 {
-    if hour.shown {
-        return separated_length(hour.style, hour.value);
+    match hour {
+        Some(shown) => separated_length(shown.style, shown.value),
+        None => 0,
     }
-    0
 }
 
-pub(crate) fn put_hour(out: &mut [u8], hour: Hour)
-    requires { (hour.value < 100) × (length (hour_text hour) ≤ length out.old) }
+pub(crate) fn put_hour(out: &mut [u8], hour: Option<Separated>)
+    requires { (hour_value hour < 100) × (length (hour_text hour) ≤ length out.old) }
     ensures { out.new ≡ placed (hour_text hour) out.old }
 {
-    if hour.shown {
-        put_separated(out, hour.style, hour.value);
+    if let Some(shown) = hour {
+        put_separated(out, shown.style, shown.value);
     }
 }

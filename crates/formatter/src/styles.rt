@@ -3,9 +3,9 @@ ghost use Rattle.std.specs.Prelude.{◌≡◌, [], ◌++◌, ℕ, ◌≤◌, ◌
 ghost use Rattle.rules.specs.Words.{bytes};
 ghost use Rattle.rules.specs.Spelling.{dotted_pair, dotted_hour, iso_hour_before, iso_hour};
 ghost use Rattle.kinds.specs.Views.{kind_of};
-ghost use Rattle.formatter.specs.Pieces.{separated, hour_text};
+ghost use Rattle.formatter.specs.Pieces.{separated, hour_value, hour_text};
 
-use crate::pieces::{Hour, Style};
+use crate::pieces::{Separated, Style};
 use kinds::Kind;
 
 // A dot, and as many digits as the number has.
@@ -33,72 +33,54 @@ const TIME: Style = Style {
 };
 
 // Month and day of the dotted text: U's have always two digits.
+#[tactic(auto, unfolding(crate::specs::Pieces::separated))]
 pub(crate) fn dotted_style(kind: Kind) -> Style
     ensures { (n : ℕ) → separated result n ≡ bytes "." ++ dotted_pair (kind_of kind) n }
 {
     match kind {
-        Kind::Raw => UNPADDED,
-        Kind::Date => UNPADDED,
-        Kind::Hour => UNPADDED,
         Kind::Uniform => PADDED,
-        Kind::Eu5 => UNPADDED,
-        Kind::Vic3 => UNPADDED,
-    }
-}
-
-// No hour.
-pub(crate) fn no_hour() -> Hour
-    ensures result_value { hour_text result ≡ [] }
-    ensures value_value { result.value ≡ 0 }
-{
-    Hour {
-        shown: false,
-        style: TIME,
-        value: 0,
+        Kind::Raw | Kind::Date | Kind::Hour | Kind::Eu5 | Kind::Vic3 => UNPADDED,
     }
 }
 
 // The hour of the dotted text: none where it is 0.
-pub(crate) fn dotted_hour(hour: u8) -> Hour
+pub(crate) fn dotted_hour(hour: u8) -> Option<Separated>
     ensures result_value { hour_text result ≡ dotted_hour hour }
-    ensures value_value { result.value ≡ hour }
+    ensures value_value { hour_value result ≡ hour }
 {
     if hour == 0 {
-        return no_hour();
+        return None;
     }
-    Hour {
-        shown: true,
+    Some(Separated {
         style: UNPADDED,
         value: hour,
-    }
+    })
 }
 
 // R and H count their hours from 1, and have none where it is 0.
-fn iso_hour_before(hour: u8) -> Hour
+fn iso_hour_before(hour: u8) -> Option<Separated>
     ensures result_value { hour_text result ≡ iso_hour_before hour }
-    ensures value_le_hour { result.value ≤ hour }
+    ensures value_le_hour { hour_value result ≤ hour }
 {
     if hour == 0 {
-        return no_hour();
+        return None;
     }
-    Hour {
-        shown: true,
+    Some(Separated {
         style: TIME,
         value: hour - 1,
-    }
+    })
 }
 
 // What each kind adds to the ISO text. As in the original, V's hour and E's in-game hour are raised by 1 to be lowered again.
-pub(crate) fn iso_hour(kind: Kind, hour: u8) -> Hour
+#[tactic(auto, unfolding(rules::specs::Spelling::iso_hour))]
+pub(crate) fn iso_hour(kind: Kind, hour: u8) -> Option<Separated>
     requires { hour < 99 }
     ensures result_value { hour_text result ≡ iso_hour (kind_of kind) hour }
-    ensures value_bound { result.value < 100 }
+    ensures value_bound { hour_value result < 100 }
 {
     match kind {
-        Kind::Raw => iso_hour_before(hour),
-        Kind::Date => no_hour(),
-        Kind::Hour => iso_hour_before(hour),
-        Kind::Uniform => no_hour(),
+        Kind::Raw | Kind::Hour => iso_hour_before(hour),
+        Kind::Date | Kind::Uniform => None,
         Kind::Eu5 => {
             let in_game = hour / 2 + 8;
             iso_hour_before(in_game + 1)

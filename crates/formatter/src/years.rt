@@ -4,16 +4,13 @@ ghost use Rattle.rules.specs.Spelling.{filled, plain_year, iso_year, exchange_ye
 ghost use Rattle.digits.specs.Places.{placed, digits_in};
 ghost use Rattle.formatter.specs.Pieces.{filled_year, sign_text, year_text};
 
-// A year's sign as its byte, or NO_SIGN; its size; and in how many digits the size is written.
+// A year's sign as its byte, if it has one; its size; and in how many digits the size is written.
 #[derive(Clone, Copy)]
 pub(crate) struct Year {
-    pub(crate) sign: u8,
+    pub(crate) sign: Option<u8>,
     pub(crate) size: u64,
     pub(crate) digits: usize,
 }
-
-// Nothing is written before the digits.
-const NO_SIGN: u8 = 0;
 
 const MINUS: u8 = b'-';
 
@@ -37,7 +34,7 @@ fn at_least(width: usize, n: u64) -> usize
 }
 
 // A sign and, after it, a size in at least so many digits.
-fn signed(sign: u8, size: u64, width: usize) -> Year
+fn signed(sign: Option<u8>, size: u64, width: usize) -> Year
     requires { (size ≤ 32768) × (width ≤ 5) }
     ensures result_value { year_text result ≡ sign_text sign ++ filled width size }
     ensures digits_bound { result.digits ≤ 5 }
@@ -57,9 +54,9 @@ fn filled_year(year: i16, above: usize, below: usize) -> Year
 {
     let h = sign::halves16(year);
     if 0 < h.dn {
-        return signed(MINUS, h.dn, below);
+        return signed(Some(MINUS), h.dn, below);
     }
-    signed(NO_SIGN, h.up, above)
+    signed(None, h.up, above)
 }
 
 // Unpadded.
@@ -85,7 +82,7 @@ pub(crate) fn exchange_year(year: i16) -> Year
 {
     let h = sign::halves16(year);
     if LAST_UNSIGNED < h.up {
-        return signed(PLUS, h.up, 5);
+        return signed(Some(PLUS), h.up, 5);
     }
     filled_year(year, 4, 5)
 }
@@ -96,24 +93,21 @@ pub(crate) fn year_length(year: Year) -> usize
     ensures value { result ≡ length (year_text year) }
     ensures upper_bound { result ≤ 6 }
 {
-    let digits = year.digits;
-    if year.sign == NO_SIGN {
-        return digits;
+    match year.sign {
+        Some(_) => year.digits + 1,
+        None => year.digits,
     }
-    digits + 1
 }
 
 pub(crate) fn put_year(out: &mut [u8], year: Year)
     requires { length (year_text year) ≤ length out.old }
     ensures { out.new ≡ placed (year_text year) out.old }
 {
-    let sign = year.sign;
-    let size = year.size;
-    let digits = year.digits;
-    if sign == NO_SIGN {
-        digits::put_digits(out, size, digits);
-    } else {
-        digits::put_digits(&mut out[1..], size, digits);
-        out[0] = sign;
+    match year.sign {
+        Some(sign) => {
+            digits::put_digits(&mut out[1..], year.size, year.digits);
+            out[0] = sign;
+        }
+        None => digits::put_digits(out, year.size, year.digits),
     }
 }

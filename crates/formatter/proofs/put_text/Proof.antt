@@ -1,9 +1,7 @@
 -- `formatter::put_text` meets its contract: each callee adds its piece to what is written. Assumes nothing.
-use Prim.Native.Nat.{◌≤◌}
 use native.Mathlib.Omega.{arith}
 use borrow.Author.Rules.{rules}
-use lib.Dec.{lit≤}
-use lib.ListN.{length, length-append}
+use lib.ListN.{length-append}
 use Rattle.rules.proofs.OnSpelling.WriteLaws.{wrote, wrote-part, wrote-whole, wrote-short}
 use Rattle.formatter.specs.Pieces.{year_text, separated, hour_text, text_of}
 use Rattle.formatter.proofs.put_text.Statement.{statement}

@@ -6,6 +6,7 @@ use Prim.Native.Nat.{ℕ, zero, suc, ◌+◌, ◌*◌, ◌^◌, ◌≤◌, ◌<�
 use native.Mathlib.Omega.{arith}
 use lib.IntN.{ℤ}
 use lib.ListN.{get_or, take, drop}
+use Rattle.std.specs.Prelude.{Ok, Err}
 use Rattle.rules.specs.Refusals.{Gives, Refused, ◌then◌, given}
 use Rattle.rules.specs.Kinds.{Kind}
 use Rattle.rules.specs.Book.{head_size}
@@ -13,7 +14,6 @@ use Rattle.rules.proofs.OnKinds.KindLaws.{left, right}
 use Rattle.requests.specs.Entries.{ascends, standing}
 use Rattle.requests.specs.FieldTable.{bad_entry, key_in, declared_kind, declared_by, all_declare, in_order, decode, guess, look_by}
 use Rattle.requests.proofs.OnFieldTable.EntryLaws.{declared-here, declared-none, by-its-code, first-declares}
-use Rattle.field_table.specs.declared.sized.Found.TheVariants as F
 use Rattle.field_table.specs.Search.{entries_in, find_of}
 use Rattle.field_table.proofs.Orders.{code_here}
 use Rattle.field_table.proofs.Finds.{at_piece, absent-tells}
@@ -53,11 +53,11 @@ module _ (key_size n : ℕ) (s : List ℕ) (order : in_order key_size (entries_i
   ascending = right (all_declare key_size es) _ order
 
   module _ (q i : ℕ) (game : Kind) (z : ℤ) where
-    pub looks-guess : F.Absent i ≡ find_of key_size q es → look_by key_size (standing (key_in key_size) q es) game z ≡ guess z game
+    pub looks-guess : Err i ≡ find_of key_size q es → look_by key_size (standing (key_in key_size) q es) game z ≡ guess z game
     unfolding look_by
     looks-guess f = rw (absent-tells key_size n s q i ascending f).none
 
-    pub looks-decode : F.At i ≡ find_of key_size q es →
+    pub looks-decode : Ok i ≡ find_of key_size q es →
         look_by key_size (standing (key_in key_size) q es) game z ≡ (declared_kind (get_or s (head_size + i * (key_size + 1) + key_size) 0) then decode z)
     unfolding look_by
     looks-decode f =

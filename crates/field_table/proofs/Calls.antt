@@ -10,9 +10,15 @@ use lib.ListN.{length, take, drop}
 use lib.Seq.{drop-drop}
 use Rattle.rules.specs.Refusals.{Answer, Gives, Refused, RefusedAt, ◌then◌, given, no_record}
 use Rattle.rules.specs.Kinds.{Kind, Fields, Stored, store_with}
-use Rattle.rules.specs.Book.{head_size, length_said, version_of, pick}
+use Rattle.rules.specs.Book.{framed, head_size, length_said, version_of, pick}
 use Rattle.rules.proofs.OnBook.PieceLaws.{piece-count, pick-past, pick-piece}
 use Rattle.rules.proofs.OnBook.FrameLaws.{Sensible, same-refusal}
+use Rattle.refusals.specs.declared.Refusal.{Refusal}
+use Rattle.refusals.specs.Answers.{refusal_as}
+use Rattle.refusals.proofs.RefusalLaws.{refused, refusal-then}
+use Rattle.frame.specs.Views.{pieces_counted}
+use Rattle.frame.proofs.Counts.{counted_is}
+use Rattle.frame.proofs.Refusing.{refused-before}
 use Rattle.requests.specs.Entries.{ascends, standing}
 use Rattle.requests.specs.Laid.{laid}
 use Rattle.requests.specs.FieldTable.{TableFormat, table_frame, table1, bad_entry, key_in, is_key, declared_kind, game_kind, declared_by, entry_bytes, entry_for, entries, in_order, counted, check, entry_at, declare_in, remove_in, declared, removed, table_buffer, declare_buffer, remove_buffer, Looked, looked_mark, look_by, game_for, lookup}
@@ -47,7 +53,19 @@ any-most key_size most most' version freed (Gives rs) s = refl
 any-most key_size most most' version freed (Refused n) s = refl
 any-most key_size most most' version freed (RefusedAt n place) s = refl
 
+-- what refuses the frame refuses the table
+pub frame-refusing : (table : TableFormat) (s : List ℕ) (e : Refusal) → refusal_as e ≡ pieces_counted (table_frame table) s → refusal_as e ≡ check table s
+unfolding counted entries
+frame-refusing table s e h = rw (refused-before e (framed (table_frame table) s) length (sym (counted_is (table_frame table) s) ∙ sym h), refusal-then e, refusal-then e)
+
 module _ (s : List ℕ) where
+  -- a refusal changes no byte
+  unchanged : (table : TableFormat) (freed : ℕ) (x : Answer (List (List ℕ))) → given x ≡ false → s ≡ table_buffer table freed x s
+  unfolding table_buffer
+  unchanged table freed (Gives rs) g = cc
+  unchanged table freed (Refused n) g = refl
+  unchanged table freed (RefusedAt n place) g = refl
+
   -- ---- the check refused
 
   pub entries-refused : {n : ℕ} → Refused n ≡ check table1 s → entries table1 s ≡ Refused n
@@ -70,6 +88,31 @@ module _ (s : List ℕ) where
     pub remove-not : (field : ℕ) → (Refused n ≡ counted (removed table1 s field)) × (s ≡ remove_buffer table1 s field)
     unfolding removed counted table_buffer
     remove-not field = rw (entries-refused e) (refl, refl)
+
+  -- ---- the same, by the refusal that the code has
+
+  module _ (e : Refusal) (h : refusal_as e ≡ check table1 s) where
+    entries-refusing : entries table1 s ≡ refusal_as e
+    unfolding counted
+    entries-refusing = refused-before e (entries table1 s) length (sym h)
+
+    pub entry-refusing : (place : ℕ) → refusal_as e ≡ entry_at table1 s place
+    unfolding entry_at
+    entry-refusing place = rw (entries-refusing, refusal-then e)
+
+    pub look-refusing : (field game : ℕ) (z : ℤ) → refusal_as e ≡ in_bits (lookup table1 s field game z)
+    unfolding lookup
+    look-refusing field game z = rw (entries-refusing, refusal-then e, refusal-then e)
+
+    pub declare-refusing : (field code : ℕ) → (refusal_as e ≡ counted (declared table1 s field code)) × (s ≡ declare_buffer table1 s field code)
+    unfolding declared counted
+    declare-refusing field code =
+        rw (entries-refusing, refusal-then e) (sym (refusal-then e _), unchanged table1 0 (refusal_as e) (refused _ e))
+
+    pub remove-refusing : (field : ℕ) → (refusal_as e ≡ counted (removed table1 s field)) × (s ≡ remove_buffer table1 s field)
+    unfolding removed counted
+    remove-refusing field =
+        rw (entries-refusing, refusal-then e) (sym (refusal-then e _), unchanged table1 3 (refusal_as e) (refused _ e))
 
   -- ---- it counted n
 

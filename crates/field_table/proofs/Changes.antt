@@ -1,31 +1,30 @@
 -- Bytes put over, put in and taken out are entries declared and removed: each way in which `declare` and `remove` answer, and the buffer
 -- then, by where the key was found. Over the bytes of a key. Assumes nothing.
 use mathlib.Core.Path.{◌≡◌, refl, sym, ap, ◌∙◌}
-use mathlib.Core.Bool.{Bool, true, false, ◌||◌, or-true}
-use mathlib.Core.List.{List, [], ◌∷◌, ◌++◌, append_assoc}
+use mathlib.Core.Bool.{true, false, ◌||◌}
+use mathlib.Core.List.{List, ◌∷◌, ◌++◌, append_assoc}
 use Prim.Native.Nat.{ℕ, suc, ◌+◌, ◌*◌, ◌-◌, ◌≤◌, ◌<◌}
 use native.Mathlib.Nat.{add-mul, mul-le-mul_right, add-zero}
 use native.Mathlib.Omega.{arith}
 use borrow.Author.Tests.{le-leb, lt-leb, le-ltb, lt-ltb}
-use lib.Dec.{leb, ltb}
-use lib.ListN.{length, get_or, take, drop, replicate, length-drop}
+use lib.ListN.{length, take, drop, replicate, length-drop}
 use lib.Seq.{sets, paste, length-paste, take-add, drop_at, drop-drop, drop-paste, length-take-le, take_all}
 use Rattle.rules.specs.Words.{big_bytes}
+use Rattle.std.specs.Prelude.{Ok, Err}
 use Rattle.rules.specs.Refusals.{Answer, Gives, Refused}
 use Rattle.rules.specs.Book.{length_size, head_size, version_of, pieces}
 use Rattle.rules.proofs.OnBook.PieceLaws.{piece-count}
-use Rattle.requests.specs.Entries.{ascends, place, some, standing, declare, remove}
-use Rattle.requests.specs.FieldTable.{TableFormat, entry_size, key_in, table_full, not_there, has_room, counted, declare_in, remove_in, table_buffer}
+use Rattle.requests.specs.Entries.{ascends, some, standing, declare, remove}
+use Rattle.requests.specs.FieldTable.{TableFormat, key_in, table_full, not_there, has_room, counted, declare_in, remove_in, table_buffer}
 use Rattle.requests.proofs.OnEntries.ChangeLaws.{placed-new, placed-over, placed-out}
 use Rattle.requests.proofs.OnLaid.CutLaws.{put_in, put-over, taken_out}
 use Rattle.requests.proofs.OnFieldTable.BufferLaws.{relaid, relaid-count}
 use Rattle.shifts.specs.Shifts.{opened, closed}
 use Rattle.shifts.proofs.Parts.{opened-length, closed-length, front_kept, opened_after, closed_after}
-use Rattle.field_table.specs.declared.sized.Found.TheVariants as F
 use Rattle.field_table.specs.Search.{Room, entries_in, find_of}
 use Rattle.field_table.specs.Views.{table_of}
 use Rattle.field_table.proofs.Keys.{inside}
-use Rattle.field_table.proofs.Finds.{Stands, at-tells, absent-tells}
+use Rattle.field_table.proofs.Finds.{at-tells, absent-tells}
 
 -- what lies behind the first h bytes, where the first h + m are kept
 behind : (h m : ℕ) (s y : List ℕ) → h ≤ length s → drop h (take (h + m) s ++ y) ≡ take m (drop h s) ++ y
@@ -116,7 +115,7 @@ module _ (key_size most n : ℕ) (v s : List ℕ) (room : Room key_size n (lengt
   into m u h fits are version after =
       rw h (relaid-count table m 0 s u (declare key v es) fits are, relaid table m 0 s u (declare key v es) fits are version (rw (add-zero (head_size + m * size)) after))
 
-  pub declare-over : {i : ℕ} {u t : List ℕ} → F.At i ≡ find_of key_size (key v) es → u ≡ paste s (head_size + i * size) v (length v) →
+  pub declare-over : {i : ℕ} {u t : List ℕ} → Ok i ≡ find_of key_size (key v) es → u ≡ paste s (head_size + i * size) v (length v) →
       t ≡ sets u 0 (big_bytes length_size (1 + n * size)) → Declared t (Gives n)
   declare-over {i} e p q =
       let w = at-tells key_size n s (key v) i a e in
@@ -129,7 +128,7 @@ module _ (key_size most n : ℕ) (v s : List ℕ) (room : Room key_size n (lengt
       ap version_of (append_assoc (take (head_size + i * size) s) _ _) ∙ front_kept s _ (head_size + i * size) length_size (omega arith) (omega arith) in
       rw (q, p) (into n (paste s (head_size + i * size) v (length v)) (rw w.only) (rw l f) are kept (over-after n size s f i v long w.within))
 
-  module _ {i : ℕ} (e : F.Absent i ≡ find_of key_size (key v) es) where
+  module _ {i : ℕ} (e : Err i ≡ find_of key_size (key v) es) where
     none : some (standing key (key v) es) ≡ false
     none = rw (absent-tells key_size n s (key v) i a e).none
 
@@ -176,7 +175,7 @@ module _ (key_size n q : ℕ) (s : List ℕ) (room : Room key_size n (length s))
   abbrev Removed : List ℕ → Answer ℕ → Type 0
   Removed t x = (x ≡ counted (remove_in key_size q from)) × (t ≡ table_buffer format width (remove_in key_size q from) s)
 
-  pub remove-at : {i : ℕ} {u t : List ℕ} → F.At i ≡ find_of key_size q from → u ≡ closed (head_size + i * width) (head_size + n * width) width s →
+  pub remove-at : {i : ℕ} {u t : List ℕ} → Ok i ≡ find_of key_size q from → u ≡ closed (head_size + i * width) (head_size + n * width) width s →
       t ≡ sets u 0 (big_bytes length_size (1 + (n - 1) * width)) → Removed t (Gives (n - 1))
   unfolding remove_in
   remove-at {i} e p r =
@@ -200,6 +199,6 @@ module _ (key_size n q : ℕ) (s : List ℕ) (room : Room key_size n (length s))
         relaid format (n - 1) width s c (remove (key_in key_size) q from) fits are (closed-version n width s f i (omega arith)) after,
       )
 
-  pub remove-none : {i : ℕ} → F.Absent i ≡ find_of key_size q from → Removed s (Refused not_there)
+  pub remove-none : {i : ℕ} → Err i ≡ find_of key_size q from → Removed s (Refused not_there)
   unfolding remove_in counted table_buffer
   remove-none {i} e = rw (absent-tells key_size n s q i a e).none (refl, refl)

@@ -1,7 +1,7 @@
 -- The key of an entry from its bytes, byte by byte, and the kinds that a table allows. Assumes nothing.
-use mathlib.Core.Path.{◌≡◌, refl, sym, ap, ◌∙◌}
+use mathlib.Core.Path.{◌≡◌, refl, ap, ◌∙◌}
 use mathlib.Core.Bool.{Bool, true, false, cond}
-use mathlib.Core.List.{List, ◌∷◌, ◌++◌}
+use mathlib.Core.List.{List}
 use Prim.Native.Nat.{ℕ, zero, suc, ◌+◌, ◌*◌, ◌^◌, ◌≤◌, ◌<◌}
 use native.Mathlib.Nat.{pow-suc, mul-le-mul_right}
 use native.Mathlib.Numerals.{add-one}
@@ -10,11 +10,16 @@ use lib.Dec.{eqb}
 use lib.ListN.{length, get_or, take, drop, length-drop}
 use lib.Seq.{take-suc, take-take, get_or-drop}
 use Rattle.rules.specs.Words.{big_endian}
-use Rattle.rules.specs.Refusals.{Answer, Gives, Refused, RefusedAt, ◌then◌, demand, not_of_kind}
+use Rattle.rules.specs.Refusals.{Answer, Gives, Refused, RefusedAt, demand, given, not_of_kind}
 use Rattle.rules.specs.Kinds.{Kind, kR, kD, kH, kU, kE, kV, kind_by}
 use Rattle.rules.specs.Book.{kind_code, kind_of_code}
 use Rattle.rules.proofs.OnWords.ByteLaws.{last_byte}
 use Rattle.requests.specs.FieldTable.{bad_entry, key_in, kind_among}
+use Rattle.kinds.specs.declared.Kind as Kinds
+use Rattle.kinds.specs.Views.{kind_of}
+use Rattle.std.specs.Bool.{then_some}
+use Rattle.std.specs.Prelude.{Option, Some, None, is_some}
+use Rattle.field_table.specs.Views.{allowed_as}
 use Rattle.field_table.specs.Search.{Room}
 
 -- ---- a key
@@ -77,3 +82,13 @@ module _ (allowed : Kind → Bool) (code : ℕ) where
   pub among_none : {n : ℕ} → Refused n ≡ kind_of_code code → kind_among allowed code ≡ Refused bad_entry
   unfolding kind_among kind_of_code
   among_none e = rw (← (renumber bad_entry not_of_kind code), ← e)
+
+-- a kind that is told only where the test holds
+pub told-where : (t : Bool) (k : Kinds.Kind) → allowed_as (then_some t k) ≡ demand t bad_entry (Gives (kind_of k))
+told-where true k = refl
+told-where false k = refl
+
+-- a kind is given where there is one
+pub given-some : (o : Option Kinds.Kind) → given (allowed_as o) ≡ is_some o
+given-some (Some k) = refl
+given-some None = refl

@@ -1,17 +1,13 @@
 -- The format of a table from its three numbers, and the code's answers as those of `requests`. Assumes nothing.
-use Rattle.std.specs.Prelude.{ℕ, Bool, true, false}
-use Rattle.rules.specs.Refusals.{Answer, Gives, Refused, ◌then◌, not_number, bad_length, bad_version, no_record}
+use Rattle.std.specs.Prelude.{ℕ, Bool, true, false, Option, Result}
+use Rattle.rules.specs.Refusals.{Answer, Gives, ◌then◌}
 use Rattle.rules.specs.Kinds as K
 use Rattle.requests.specs.FieldTable as T
 use Rattle.kinds.specs.Views.{kind_of, bits_of}
-use Rattle.codes.specs.declared.Coded.{Coded}
-use Rattle.codes.specs.declared.Coded.TheVariants as D
-use Rattle.field_table.specs.declared.Checked.{Checked}
-use Rattle.field_table.specs.declared.Checked.TheVariants as C
-use Rattle.field_table.specs.declared.Changed.{Changed}
-use Rattle.field_table.specs.declared.Changed.TheVariants as G
+use Rattle.kinds.specs.declared.Kind.{Kind}
+use Rattle.refusals.specs.declared.Refusal.{Refusal}
+use Rattle.refusals.specs.Answers.{result_as, option_as}
 use Rattle.field_table.specs.declared.Entry.{Entry}
-use Rattle.field_table.specs.declared.Entry.TheVariants as E
 use Rattle.field_table.specs.declared.Looked.{Looked}
 use Rattle.field_table.specs.declared.Looked.TheVariants as L
 
@@ -20,30 +16,21 @@ abbrev pub table_of : ℕ → ℕ → ℕ → T.TableFormat
 table_of key_size most version = record { key_size = key_size; most = most; version = version }
 
 -- a kind by its code, where a table's call allows it
-abbrev pub allowed_as : Coded → Answer K.Kind
-allowed_as (D.Kind k) = Gives (kind_of k)
-allowed_as D.None = Refused T.bad_entry
+abbrev pub allowed_as : Option Kind → Answer K.Kind
+allowed_as = option_as T.bad_entry kind_of
 
-abbrev pub checked_as : Checked → Answer ℕ
-checked_as (C.Entries n) = Gives n
-checked_as C.BadLength = Refused bad_length
-checked_as C.BadVersion = Refused bad_version
-checked_as C.BadEntry = Refused T.bad_entry
+abbrev pub checked_as : Result ℕ Refusal → Answer ℕ
+checked_as = result_as (λ n. n)
 
-abbrev pub changed_as : Changed → Answer ℕ
-changed_as (G.Entries n) = Gives n
-changed_as G.BadLength = Refused bad_length
-changed_as G.BadVersion = Refused bad_version
-changed_as G.BadEntry = Refused T.bad_entry
-changed_as G.Full = Refused T.table_full
-changed_as G.NotThere = Refused T.not_there
+abbrev pub changed_as : Result ℕ Refusal → Answer ℕ
+changed_as = result_as (λ n. n)
 
-abbrev pub entry_as : Entry → Answer T.Declared
-entry_as (E.Field field k) = Gives (record { key = field; kind = kind_of k })
-entry_as E.BadLength = Refused bad_length
-entry_as E.BadVersion = Refused bad_version
-entry_as E.BadEntry = Refused T.bad_entry
-entry_as E.NoEntry = Refused no_record
+-- what an entry declares, by its key
+abbrev pub declared_as : Entry → T.Declared
+declared_as e = record { key = e.field; kind = kind_of e.kind }
+
+abbrev pub entry_as : Result Entry Refusal → Answer T.Declared
+entry_as = result_as declared_as
 
 -- what a lookup gives, with the date as it is stored
 pub record Bits : Type 0 where
@@ -54,10 +41,9 @@ pub record Bits : Type 0 where
 abbrev pub in_bits : Answer T.Looked → Answer Bits
 in_bits a = a then λ l. Gives (record { kind = l.kind; date = T.looked_date l; guessed = l.guessed })
 
-abbrev pub looked_as : Looked → Answer Bits
-looked_as (L.Declared k d) = Gives (record { kind = kind_of k; date = bits_of d; guessed = false })
-looked_as (L.Guessed k d) = Gives (record { kind = kind_of k; date = bits_of d; guessed = true })
-looked_as L.BadLength = Refused bad_length
-looked_as L.BadVersion = Refused bad_version
-looked_as L.BadEntry = Refused T.bad_entry
-looked_as L.NotNumber = Refused not_number
+abbrev pub bits_in : Looked → Bits
+bits_in (L.Declared k d) = record { kind = kind_of k; date = bits_of d; guessed = false }
+bits_in (L.Guessed k d) = record { kind = kind_of k; date = bits_of d; guessed = true }
+
+abbrev pub looked_as : Result Looked Refusal → Answer Bits
+looked_as = result_as bits_in

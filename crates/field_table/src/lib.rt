@@ -12,80 +12,55 @@ ghost use Rattle.kinds.specs.Views.{kind_of};
 ghost use Rattle.frame.specs.Views.{started_as};
 ghost use Rattle.field_table.specs.Views.{checked_as, changed_as, entry_as, in_bits, looked_as};
 
-use codes::Coded;
-use frame::{HEAD_SIZE, Started};
+use frame::HEAD_SIZE;
 use kinds::{Kind, Packed};
-use number::{Guess, Read};
+use refusals::Refusal;
+use sized::Format;
 
 pub mod allowed;
 pub mod by_key;
 pub mod sized;
 
-// The bytes of a field number, the most entries and the version byte of version 1.
+// The bytes of a field number.
 pub const KEY_SIZE: usize = 2;
 
-pub const MOST: usize = 2048;
-
-pub const VERSION: u8 = 1;
+// Version 1.
+pub const FORMAT: Format = Format {
+    key_size: KEY_SIZE,
+    most: 2048,
+    version: 1,
+};
 
 // The bytes of an entry.
 const SIZE: usize = KEY_SIZE + 1;
 
-// The number of entries, or why there is no table.
+// What an entry declares.
 #[derive(Clone, Copy)]
-pub enum Checked {
-    Entries(usize),
-    BadLength,
-    BadVersion,
-    BadEntry,
-}
-
-// The number of entries after a change, or why there was none.
-#[derive(Clone, Copy)]
-pub enum Changed {
-    Entries(usize),
-    BadLength,
-    BadVersion,
-    BadEntry,
-    Full,
-    NotThere,
-}
-
-// What an entry declares, or why there is none.
-#[derive(Clone, Copy)]
-pub enum Entry {
-    Field { field: u32, kind: Kind },
-    BadLength,
-    BadVersion,
-    BadEntry,
-    NoEntry,
+pub struct Entry {
+    pub field: u32,
+    pub kind: Kind,
 }
 
 // The date of a number and the kind that was used: the field's own, or the game's, whose guess it was and by which the date is marked.
-// Or why there is no date.
 #[derive(Clone, Copy)]
 pub enum Looked {
     Declared { kind: Kind, date: Packed },
     Guessed { kind: Kind, date: Packed },
-    BadLength,
-    BadVersion,
-    BadEntry,
-    NotNumber,
 }
 
 // Writes an empty table. The bytes after it stay.
-pub fn new(b: &mut [u8]) -> Started
+pub fn new(b: &mut [u8]) -> Result<(), Refusal>
     ensures result_value { started_as result ≡ new_answer b.old }
     ensures b_after { b.new ≡ new_buffer table1.version b.old }
 {
-    frame::new(b, VERSION)
+    frame::new(b, FORMAT.version)
 }
 
 // Whether the buffer starts with a table, and how many entries it has.
-pub fn check(b: &[u8]) -> Checked
+pub fn check(b: &[u8]) -> Result<usize, Refusal>
     ensures { checked_as result ≡ check table1 b.now }
 {
-    sized::check_of(b, KEY_SIZE, MOST, VERSION)
+    FORMAT.check_of(b)
 }
 
 // ---- a table that was checked
@@ -99,133 +74,88 @@ fn entries_in(b: &[u8]) -> usize
 }
 
 // What the entry at a place of it declares.
-pub fn declared_at(b: &[u8], place: usize) -> Entry
+pub fn declared_at(b: &[u8], place: usize) -> Result<Entry, Refusal>
     requires { given (check table1 b.now) ≡ true }
     ensures { entry_as result ≡ entry_at table1 b.now place }
 {
     if place < entries_in(b) {
-        by_key::declared_at(b, HEAD_SIZE + place * SIZE, KEY_SIZE)
+        by_key::declared_at(b, HEAD_SIZE + place * SIZE, FORMAT)
     } else {
-        Entry::NoEntry
+        Err(Refusal::NoRecord)
     }
 }
 
 // The full decoding of a number by the kind of an entry's code.
-fn decode(code: u8, number: i32) -> Looked
+fn decode(code: u8, number: i32) -> Result<Looked, Refusal>
     ensures { looked_as result ≡ in_bits (declared_kind code then decode number) }
 {
-    let coded = allowed::entry_kind(code);
-    match coded {
-        Coded::Kind(kind) => {
-            let read = number::from_binary(kind, number);
-            match read {
-                Read::Date(date) => Looked::Declared { kind, date },
-                Read::NotNumber => Looked::NotNumber,
-            }
-        }
-        Coded::None => Looked::BadEntry,
-    }
+    let kind = allowed::entry_kind(code).ok_or(Refusal::BadEntry)?;
+    let date = number::from_binary(kind, number).ok_or(Refusal::NotNumber)?;
+    Ok(Looked::Declared { kind, date })
 }
 
-fn guess(kind: Kind, number: i32) -> Looked
+fn guess(kind: Kind, number: i32) -> Result<Looked, Refusal>
     requires { guesses (kind_of kind) ≡ true }
     ensures { looked_as result ≡ in_bits (guess number (kind_of kind)) }
 {
-    let guessed = number::from_binary_heuristic(kind, number);
-    match guessed {
-        Guess::Date(date) => Looked::Guessed { kind, date },
-        Guess::NotNumber => Looked::NotNumber,
-    }
+    let guess = number::from_binary_heuristic(kind, number).ok_or(Refusal::NotNumber)?;
+    Ok(Looked::Guessed {
+        kind,
+        date: guess.date,
+    })
 }
 
 // A number looked up by its field, in a table that was checked: only the entries on the way to the field's are looked at.
-pub fn look(b: &[u8], field: u32, game: u32, number: i32) -> Looked
+pub fn look(b: &[u8], field: u32, game: u32, number: i32) -> Result<Looked, Refusal>
     requires { given (check table1 b.now) ≡ true }
     ensures { looked_as result ≡ in_bits (lookup table1 b.now field game number) }
 {
-    if allowed::is_field(field) {
-        let coded = allowed::game_kind(game);
-        match coded {
-            Coded::Kind(kind) => {
-                by_key::look(b, entries_in(b), KEY_SIZE, field as usize, kind, number)
-            }
-            Coded::None => Looked::BadEntry,
-        }
-    } else {
-        Looked::BadEntry
+    if !allowed::is_field(field) {
+        return Err(Refusal::BadEntry);
     }
+    let kind = allowed::game_kind(game).ok_or(Refusal::BadEntry)?;
+    by_key::look(b, entries_in(b), FORMAT, field as usize, kind, number)
 }
 
 // ---- whatever the buffer holds
 
 // What the entry at a place declares.
-pub fn entry_at(b: &[u8], place: usize) -> Entry
+pub fn entry_at(b: &[u8], place: usize) -> Result<Entry, Refusal>
     ensures { entry_as result ≡ entry_at table1 b.now place }
 {
-    let checked = check(b);
-    match checked {
-        Checked::Entries(_) => declared_at(b, place),
-        Checked::BadLength => Entry::BadLength,
-        Checked::BadVersion => Entry::BadVersion,
-        Checked::BadEntry => Entry::BadEntry,
-    }
+    check(b)?;
+    declared_at(b, place)
 }
 
 // Declares a field to be of a kind, by its code: in place of what was declared of it, or as a new entry.
-pub fn declare(b: &mut [u8], field: u32, code: u32) -> Changed
+pub fn declare(b: &mut [u8], field: u32, code: u32) -> Result<usize, Refusal>
     ensures result_value { changed_as result ≡ counted (declared table1 b.old field code) }
     ensures b_after { b.new ≡ declare_buffer table1 b.old field code }
 {
-    let checked = check(b);
-    match checked {
-        Checked::Entries(n) => {
-            if allowed::is_field(field) {
-                let coded = allowed::declared_kind(code);
-                match coded {
-                    Coded::Kind(kind) => {
-                        let piece = allowed::entry_bytes(field, kind);
-                        sized::declare(b, n, &piece, KEY_SIZE, MOST)
-                    }
-                    Coded::None => Changed::BadEntry,
-                }
-            } else {
-                Changed::BadEntry
-            }
-        }
-        Checked::BadLength => Changed::BadLength,
-        Checked::BadVersion => Changed::BadVersion,
-        Checked::BadEntry => Changed::BadEntry,
+    let n = check(b)?;
+    if !allowed::is_field(field) {
+        return Err(Refusal::BadEntry);
     }
+    let kind = allowed::declared_kind(code).ok_or(Refusal::BadEntry)?;
+    FORMAT.declare(b, n, &allowed::entry_bytes(field, kind))
 }
 
 // Removes a field's entry: the later ones close up, and the bytes freed are 0.
-pub fn remove(b: &mut [u8], field: u32) -> Changed
+pub fn remove(b: &mut [u8], field: u32) -> Result<usize, Refusal>
     ensures result_value { changed_as result ≡ counted (removed table1 b.old field) }
     ensures b_after { b.new ≡ remove_buffer table1 b.old field }
 {
-    let checked = check(b);
-    match checked {
-        Checked::Entries(n) => {
-            if allowed::is_field(field) {
-                return sized::remove(b, n, KEY_SIZE, field as usize);
-            }
-            Changed::BadEntry
-        }
-        Checked::BadLength => Changed::BadLength,
-        Checked::BadVersion => Changed::BadVersion,
-        Checked::BadEntry => Changed::BadEntry,
+    let n = check(b)?;
+    if !allowed::is_field(field) {
+        return Err(Refusal::BadEntry);
     }
+    FORMAT.remove(b, n, field as usize)
 }
 
 // Looks a number up by its field: the full decoding of the kind that was declared, or the game kind's guess.
-pub fn lookup(b: &[u8], field: u32, game: u32, number: i32) -> Looked
+pub fn lookup(b: &[u8], field: u32, game: u32, number: i32) -> Result<Looked, Refusal>
     ensures { looked_as result ≡ in_bits (lookup table1 b.now field game number) }
 {
-    let checked = check(b);
-    match checked {
-        Checked::Entries(_) => look(b, field, game, number),
-        Checked::BadLength => Looked::BadLength,
-        Checked::BadVersion => Looked::BadVersion,
-        Checked::BadEntry => Looked::BadEntry,
-    }
+    check(b)?;
+    look(b, field, game, number)
 }

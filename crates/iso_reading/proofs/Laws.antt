@@ -5,6 +5,7 @@ use mathlib.Core.List.{List}
 use Prim.Native.Nat.{ℕ, ◌≤◌, ◌<◌}
 use native.Mathlib.Omega.{arith}
 use lib.ListN.{length, take, drop}
+use Rattle.std.specs.Prelude.{Result}
 use Rattle.rules.specs.Refusals.{Gives, ◌then◌, given}
 use Rattle.rules.specs.Kinds.{Kind, Stored, unpacked, handed, of_date}
 use Rattle.rules.specs.Text.{one_or_two}
@@ -14,8 +15,7 @@ use Rattle.rules.proofs.OnSpelling.LengthLaws.{Sized, text-lengths}
 use Rattle.rules.proofs.Shared.Rests.{here, past}
 use Rattle.requests.specs.IsoReader.{named_hour, iso_hour_after}
 use Rattle.formatter.specs.Views.{length_of}
-use Rattle.formatter.specs.declared.Spelled.{Spelled}
-use Rattle.formatter.specs.declared.Spelled.TheVariants as W
+use Rattle.refusals.specs.declared.Refusal.{Refusal}
 use Rattle.formatter.proofs.Texts.{Done, Fits, fits, taken}
 
 -- ---- the hour after the day
@@ -31,7 +31,7 @@ module _ (k : Kind) (s : List ℕ) (i : ℕ) where
 
 -- ---- a date's own text, in a buffer that has room for it
 
-module _ (k : Kind) (d : Stored) (l₀ l : List ℕ) (r : Spelled) (room : 15 ≤ length l₀)
+module _ (k : Kind) (d : Stored) (l₀ l : List ℕ) (r : Result ℕ Refusal) (room : 15 ≤ length l₀)
     (done : Done (of_date k d (λ f. Gives (iso k f))) l₀ r l)
     (of-kind : given (handed k d) ≡ true)
   where
@@ -42,8 +42,8 @@ module _ (k : Kind) (d : Stored) (l₀ l : List ℕ) (r : Spelled) (room : 15 �
     written = fits k d (iso k) l₀ l r of-kind room (λ p. sized.1) done
 
     -- it stands at the front
-    pub own-text : {n : ℕ} → r ≡ W.Length n → take n l ≡ iso k (unpacked d)
-    own-text {n} e = taken (iso k (unpacked d)) _ l n (rw e at written.answered.0) written.holds
+    pub own-text : take (length_of r) l ≡ iso k (unpacked d)
+    own-text = taken (iso k (unpacked d)) _ l (length_of r) written.answered.0 written.holds
 
     -- it has bytes, so that it is not refused
     pub not-refused : {A : Type 0} → length_of r ≡ 0 → A

@@ -12,6 +12,7 @@ use lib.Signed.{mag}
 use mir.Syntax.{w64}
 use mir.Val.{to_z, of_z, hbits}
 use Rattle.sign.proofs.Bits.{held}
+use Rattle.std.specs.Prelude.{Option, Some, None}
 use Rattle.rules.specs.Words.{same_bytes}
 use Rattle.rules.specs.Refusals.{Answer, Gives, Refused, ◌then◌, demand, given, not_text}
 use Rattle.rules.specs.Kinds.{Kind, Fields, Stored, no_mark, unpacked, stored, store, handed, settled}
@@ -25,15 +26,11 @@ use Rattle.requests.proofs.OnIsoReader.NamedLaws.{outcome-iso-part}
 use Rattle.scalar.specs.Number.{most63, leading_number}
 use Rattle.scalar.specs.Views.{leading_as}
 use Rattle.scalar.specs.declared.Leading.{Leading}
-use Rattle.scalar.specs.declared.Leading.TheVariants as L
 use Rattle.dotted.specs.Views.{parts_as}
 use Rattle.dotted.specs.declared.Parts.{Parts}
-use Rattle.dotted.specs.declared.Parts.TheVariants as P
 use Rattle.dotted.proofs.Laws.{then-then}
 use Rattle.kinds.specs.Views.{bits_of, made_as}
 use Rattle.kinds.specs.declared.Packed.{Packed}
-use Rattle.kinds.specs.declared.Made.{Made}
-use Rattle.kinds.specs.declared.Made.TheVariants as M
 use Rattle.reading.proofs.Leads.{no-year, led-none, led-some}
 
 -- ---- what follows the leading number
@@ -77,41 +74,37 @@ module _ (k : Kind) (s : List ℕ) where
   abbrev pub named_date : Answer Stored
   named_date = store (named k s)
 
-  module _ {lead : Leading} (is-led : leading_as s lead ≡ leading_number s) where
-    pub lead-refused : lead ≡ L.Refused → Refused not_text ≡ named_date
-    unfolding named
-    lead-refused e = sym (ap store (led-none (rest_named k s) (rest_out k s) s is-led e))
+  pub lead-refused : Refused not_text ≡ leading_number s → Refused not_text ≡ named_date
+  unfolding named
+  lead-refused e = sym (ap store (led-none (rest_named k s) (rest_out k s) s {lead = None} e refl))
 
-    module _ {v : ℤ} {i : ℕ} (led : lead ≡ L.Number v i) (parts : Parts) (is-parts : (y : ℤ) → parts_as y parts ≡ iso_part k y (drop i s)) where
-      goes_on : named_date ≡ store (parts_as v parts then λ f. settled k not_text f then spelled_so k s)
+  module _ (r : Leading) (led : leading_as s (Some r) ≡ leading_number s) where
+    module _ (parts : Option Parts) (is-parts : (y : ℤ) → parts_as y parts ≡ iso_part k y (drop r.next s)) where
+      goes_on : named_date ≡ store (parts_as r.value parts then λ f. settled k not_text f then spelled_so k s)
       unfolding named
       goes_on =
-          ap store (led-some (rest_named k s) (rest_out k s) s is-led led)
-          ∙ ap (λ (x : Answer Fields). store (x then λ f. settled k not_text f then spelled_so k s)) (sym (is-parts v))
+          ap store (led-some (rest_named k s) (rest_out k s) s led refl)
+          ∙ ap (λ (x : Answer Fields). store (x then λ f. settled k not_text f then spelled_so k s)) (sym (is-parts r.value))
 
-      pub parts-refused : parts ≡ P.NotText → Refused not_text ≡ named_date
+      pub parts-refused : parts ≡ None → Refused not_text ≡ named_date
       parts-refused e = sym (goes_on ∙ rw e)
 
-      -- the year comes to the third call as its 64 bits
-      module _ {m d h : ℕ} (is-fields : parts ≡ P.Fields m d h) (fit64 : mag v < 2 ^ hbits w64) (made : Made)
-          (is_made : made_as not_text made ≡ store (settled k not_text (record { year = to_z w64 (of_z w64 v); month = m; day = d; hour = h })))
-        where
-          abbrev date : Answer Fields
-          date = settled k not_text (record { year = v; month = m; day = d; hour = h })
+    module _ (p : Parts) (is-parts : (y : ℤ) → parts_as y (Some p) ≡ iso_part k y (drop r.next s)) (made : Option Packed)
+        (is_made : made_as not_text made ≡ store (settled k not_text (record { year = r.value; month = p.month; day = p.day; hour = p.hour })))
+      where
+        abbrev date : Answer Fields
+        date = settled k not_text (record { year = r.value; month = p.month; day = p.day; hour = p.hour })
 
-          outcome : Outcome (λ n. n ≡ not_text) (Dated k) date
-          outcome = outcome-settled k not_text _ refl
+        outcome : Outcome (λ n. n ≡ not_text) (Dated k) date
+        outcome = outcome-settled k not_text _ refl
 
-          stored-so : store date ≡ made_as not_text made
-          stored-so = sym (rw (held w64 {z = v} fit64) at is_made)
+        settles : named_date ≡ store (date then spelled_so k s)
+        settles = goes_on (Some p) is-parts
 
-          settles : named_date ≡ store (date then spelled_so k s)
-          settles = goes_on ∙ rw is-fields
+        pub made_none : made ≡ None → Refused not_text ≡ named_date
+        made_none e = sym (settles ∙ none-stored k s outcome (sym is_made ∙ ap (made_as not_text) e))
 
-          pub made_none : made ≡ M.None → Refused not_text ≡ named_date
-          made_none e = sym (settles ∙ none-stored k s outcome (stored-so ∙ ap (made_as not_text) e))
-
-          pub made_some : {packed : Packed} (t : Bool) → made ≡ M.Date packed →
-              (given (handed k (bits_of packed)) ≡ true → t ≡ same_bytes s (iso k (unpacked (bits_of packed)))) →
-              demand t not_text (Gives (bits_of packed)) ≡ named_date
-          made_some {packed} t e own = sym (settles ∙ some_stored k s (bits_of packed) t own outcome (stored-so ∙ ap (made_as not_text) e))
+        pub made_some : {packed : Packed} (t : Bool) → made ≡ Some packed →
+            (given (handed k (bits_of packed)) ≡ true → t ≡ same_bytes s (iso k (unpacked (bits_of packed)))) →
+            demand t not_text (Gives (bits_of packed)) ≡ named_date
+        made_some {packed} t e own = sym (settles ∙ some_stored k s (bits_of packed) t own outcome (sym is_made ∙ ap (made_as not_text) e))

@@ -9,8 +9,6 @@ use Rattle.rules.specs.Kinds.{Kind, Stored, store}
 use Rattle.rules.specs.Text.{text_limit}
 use Rattle.requests.specs.IsoReader.{named, read_iso}
 use Rattle.requests.proofs.OnIsoReader.IsoLaws.{iso-too-long}
-use Rattle.kinds.specs.Views.{made_as}
-use Rattle.kinds.specs.declared.Made.{Made}
 
 module _ (k : Kind) (s : List ℕ) where
   abbrev pub iso_date : Answer Stored
@@ -19,6 +17,6 @@ module _ (k : Kind) (s : List ℕ) where
   pub too_long_lem : text_limit < length s → iso_date ≡ Refused too_long
   too_long_lem h = ap store ((iso-too-long k s).1 h)
 
-  pub iso-read : length s ≤ text_limit → {read r : Made} → made_as not_text read ≡ store (named k s) → read ≡ r → made_as not_text r ≡ iso_date
+  pub iso-read : length s ≤ text_limit → store (named k s) ≡ iso_date
   unfolding read_iso
-  iso-read h is_read same = ap (made_as not_text) (sym same) ∙ is_read ∙ rw (le-leb (length s) text_limit h)
+  iso-read h = rw (le-leb (length s) text_limit h)

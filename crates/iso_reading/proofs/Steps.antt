@@ -3,15 +3,11 @@
 use mathlib.Core.Path.{◌≡◌, refl, sym, ap, ◌∙◌}
 use mathlib.Core.Bool.{Bool, true, false}
 use mathlib.Core.List.{List}
-use Prim.Native.Nat.{ℕ, ◌<◌, ◌^◌}
+use Prim.Native.Nat.{ℕ, ◌<◌}
 use native.Mathlib.Omega.{arith}
 use lib.Dec.{lit<}
 use lib.IntN.{ℤ, nat_abs}
 use lib.ListN.{drop}
-use lib.Signed.{mag}
-use mir.Syntax.{w64}
-use mir.Val.{to_z, of_z, hbits}
-use Rattle.sign.proofs.Bits.{held}
 use Rattle.std.specs.Prelude.{Option, Some, None}
 use Rattle.rules.specs.Words.{same_bytes}
 use Rattle.rules.specs.Refusals.{Answer, Gives, Refused, ◌then◌, demand, given, not_text}
@@ -29,7 +25,7 @@ use Rattle.scalar.specs.declared.Leading.{Leading}
 use Rattle.dotted.specs.Views.{parts_as}
 use Rattle.dotted.specs.declared.Parts.{Parts}
 use Rattle.dotted.proofs.Laws.{then-then}
-use Rattle.kinds.specs.Views.{bits_of, made_as}
+use Rattle.kinds.specs.Views.{bits_of}
 use Rattle.kinds.specs.declared.Packed.{Packed}
 use Rattle.reading.proofs.Leads.{no-year, led-none, led-some}
 
@@ -79,32 +75,27 @@ module _ (k : Kind) (s : List ℕ) where
   lead-refused e = sym (ap store (led-none (rest_named k s) (rest_out k s) s {lead = None} e refl))
 
   module _ (r : Leading) (led : leading_as s (Some r) ≡ leading_number s) where
-    module _ (parts : Option Parts) (is-parts : (y : ℤ) → parts_as y parts ≡ iso_part k y (drop r.next s)) where
-      goes_on : named_date ≡ store (parts_as r.value parts then λ f. settled k not_text f then spelled_so k s)
-      unfolding named
-      goes_on =
-          ap store (led-some (rest_named k s) (rest_out k s) s led refl)
-          ∙ ap (λ (x : Answer Fields). store (x then λ f. settled k not_text f then spelled_so k s)) (sym (is-parts r.value))
+    goes_on : (parts : Option Parts) → ((y : ℤ) → parts_as y parts ≡ iso_part k y (drop r.next s)) →
+        named_date ≡ store (parts_as r.value parts then λ f. settled k not_text f then spelled_so k s)
+    unfolding named
+    goes_on parts is-parts =
+        ap store (led-some (rest_named k s) (rest_out k s) s led refl)
+        ∙ ap (λ (x : Answer Fields). store (x then λ f. settled k not_text f then spelled_so k s)) (sym (is-parts r.value))
 
-      pub parts-refused : parts ≡ None → Refused not_text ≡ named_date
-      parts-refused e = sym (goes_on ∙ rw e)
+    pub parts-refused : ((y : ℤ) → parts_as y None ≡ iso_part k y (drop r.next s)) → Refused not_text ≡ named_date
+    parts-refused is-parts = sym (goes_on None is-parts)
 
-    module _ (p : Parts) (is-parts : (y : ℤ) → parts_as y (Some p) ≡ iso_part k y (drop r.next s)) (made : Option Packed)
-        (is_made : made_as not_text made ≡ store (settled k not_text (record { year = r.value; month = p.month; day = p.day; hour = p.hour })))
-      where
-        abbrev date : Answer Fields
-        date = settled k not_text (record { year = r.value; month = p.month; day = p.day; hour = p.hour })
+    module _ (p : Parts) (is-parts : (y : ℤ) → parts_as y (Some p) ≡ iso_part k y (drop r.next s)) where
+      abbrev pub settled_date : Answer Stored
+      settled_date = store (settled k not_text (record { year = r.value; month = p.month; day = p.day; hour = p.hour }))
 
-        outcome : Outcome (λ n. n ≡ not_text) (Dated k) date
-        outcome = outcome-settled k not_text _ refl
+      outcome : Outcome (λ n. n ≡ not_text) (Dated k) (settled k not_text (record { year = r.value; month = p.month; day = p.day; hour = p.hour }))
+      outcome = outcome-settled k not_text _ refl
 
-        settles : named_date ≡ store (date then spelled_so k s)
-        settles = goes_on (Some p) is-parts
+      pub date-refused : Refused not_text ≡ settled_date → Refused not_text ≡ named_date
+      date-refused e = sym (goes_on (Some p) is-parts ∙ none-stored k s outcome (sym e))
 
-        pub made_none : made ≡ None → Refused not_text ≡ named_date
-        made_none e = sym (settles ∙ none-stored k s outcome (sym is_made ∙ ap (made_as not_text) e))
-
-        pub made_some : {packed : Packed} (t : Bool) → made ≡ Some packed →
-            (given (handed k (bits_of packed)) ≡ true → t ≡ same_bytes s (iso k (unpacked (bits_of packed)))) →
-            demand t not_text (Gives (bits_of packed)) ≡ named_date
-        made_some {packed} t e own = sym (settles ∙ some_stored k s (bits_of packed) t own outcome (sym is_made ∙ ap (made_as not_text) e))
+      pub own-spelling : (packed : Packed) (t : Bool) → Gives (bits_of packed) ≡ settled_date →
+          (given (handed k (bits_of packed)) ≡ true → t ≡ same_bytes s (iso k (unpacked (bits_of packed)))) →
+          demand t not_text (Gives (bits_of packed)) ≡ named_date
+      own-spelling packed t e own = sym (goes_on (Some p) is-parts ∙ some_stored k s (bits_of packed) t own outcome (sym e))

@@ -1,10 +1,10 @@
 -- A whole text, by the steps of each kind's reader: its length, then the date that it names. Assumes nothing.
-use mathlib.Core.Path.{◌≡◌, sym, ap, ◌∙◌}
+use mathlib.Core.Path.{◌≡◌, ap}
 use mathlib.Core.List.{List}
 use Prim.Native.Nat.{ℕ, ◌≤◌, ◌<◌}
 use borrow.Author.Tests.{le-leb}
 use lib.ListN.{length}
-use Rattle.rules.specs.Refusals.{Answer, Refused, too_long, not_text}
+use Rattle.rules.specs.Refusals.{Answer, Refused, too_long}
 use Rattle.rules.specs.Kinds.{Kind, Stored, store}
 use Rattle.rules.specs.Text.{text_limit}
 use Rattle.requests.specs.IsoReader.{named, read_iso}

@@ -1,8 +1,7 @@
 -- `iso_reading::hour_after` meets its contract: nothing follows, or a number of two digits at most. Assumes nothing.
-use mathlib.Core.Path.{◌≡◌, sym, ap, refl, ◌∙◌}
+use mathlib.Core.Path.{◌≡◌, sym, refl}
 use Rattle.rules.specs.Refusals.{not_text}
 use Rattle.rules.proofs.OnRefusals.OutcomeLaws.{outcome-value, outcome-digits}
-use Rattle.dotted.specs.Views.{taken_as}
 use Rattle.kinds.specs.Views.{kind_of}
 use Rattle.iso_reading.proofs.Laws.{no-hour, an-hour}
 use Rattle.iso_reading.proofs.hour_after.Goals as goal

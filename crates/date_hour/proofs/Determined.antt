@@ -1,15 +1,11 @@
 -- Each answer is determined: two that a contract allows are equal, since the view that the contract names can be read back.
 -- Assumes nothing.
-use mathlib.Core.Path.{◌≡◌, refl}
+use Rattle.std.specs.Prelude.{refl}
 use Rattle.rules.specs.Kinds.{Stored}
-use Rattle.rules.proofs.OnRefusals.Determined.{Determines, determined, back_one, back_text, back_sum}
+use Rattle.rules.proofs.OnRefusals.Determined.{Determines, determined}
 use Rattle.kinds.proofs.Determined.{packed_of}
+use Rattle.pds_date.proofs.Determined as dates
 use Rattle.date_hour.specs.declared.DateHour.{DateHour}
-use Rattle.date_hour.specs.declared.Made.TheVariants as M
-use Rattle.date_hour.specs.declared.Parsed.TheVariants as P
-use Rattle.date_hour.specs.declared.Decoded.TheVariants as D
-use Rattle.date_hour.specs.declared.Guessed.TheVariants as G
-use Rattle.date_hour.specs.declared.Summed.TheVariants as S
 use Rattle.date_hour.specs.Views.{bits, made_as, parsed_as, decoded_as, guessed_as, summed_as}
 
 abbrev dated : Stored → DateHour
@@ -19,18 +15,16 @@ pub bits-determined : Determines bits
 bits-determined = determined bits dated (λ d. refl)
 
 pub made-determined : Determines made_as
-made-determined = determined made_as (back_one (λ d. M.Date (dated d)) M.NotOfKind) (λ r. elim r as (λ k. (back_one (λ d. M.Date (dated d)) M.NotOfKind) (made_as k) ≡ k) [ M.Date d ↦ refl | M.NotOfKind ↦ refl ])
+made-determined = dates.made-determined bits dated (λ d. refl)
 
 pub parsed-determined : Determines parsed_as
-parsed-determined = determined parsed_as (back_text (λ d. P.Date (dated d)) P.TooLong P.NotText)
-    (λ r. elim r as (λ k. (back_text (λ d. P.Date (dated d)) P.TooLong P.NotText) (parsed_as k) ≡ k) [ P.Date d ↦ refl | P.TooLong ↦ refl | P.NotText ↦ refl ])
+parsed-determined = dates.parsed-determined bits dated (λ d. refl)
 
 pub decoded-determined : Determines decoded_as
-decoded-determined = determined decoded_as (back_one (λ d. D.Date (dated d)) D.NotNumber) (λ r. elim r as (λ k. (back_one (λ d. D.Date (dated d)) D.NotNumber) (decoded_as k) ≡ k) [ D.Date d ↦ refl | D.NotNumber ↦ refl ])
+decoded-determined = dates.decoded-determined bits dated (λ d. refl)
 
 pub guessed-determined : Determines guessed_as
-guessed-determined = determined guessed_as (back_one (λ d. G.Date (dated d)) G.NotNumber) (λ r. elim r as (λ k. (back_one (λ d. G.Date (dated d)) G.NotNumber) (guessed_as k) ≡ k) [ G.Date d ↦ refl | G.NotNumber ↦ refl ])
+guessed-determined = dates.guessed-determined bits dated (λ d. refl)
 
 pub summed-determined : Determines summed_as
-summed-determined = determined summed_as (back_sum (λ d. S.Date (dated d)) S.NotOfKind S.Overflow S.OutOfRange)
-    (λ r. elim r as (λ k. (back_sum (λ d. S.Date (dated d)) S.NotOfKind S.Overflow S.OutOfRange) (summed_as k) ≡ k) [ S.Date d ↦ refl | S.NotOfKind ↦ refl | S.Overflow ↦ refl | S.OutOfRange ↦ refl ])
+summed-determined = dates.summed-determined bits dated (λ d. refl)

@@ -1,17 +1,13 @@
 -- Each answer is determined: two that a contract allows are equal, since the view that the contract names can be read back.
 -- Assumes nothing.
-use mathlib.Core.Path.{◌≡◌, refl}
+use Rattle.std.specs.Prelude.{refl}
 use Rattle.rules.specs.Kinds.{Stored}
-use Rattle.rules.proofs.OnRefusals.Determined.{Determines, determined, back_one, back_text, back_sum}
+use Rattle.rules.specs.Refusals.{not_of_kind}
+use Rattle.rules.proofs.OnRefusals.Determined.{Determines, determined}
+use Rattle.refusals.proofs.Determined.{option-determined}
 use Rattle.kinds.proofs.Determined.{packed_of}
+use Rattle.pds_date.proofs.Determined as dates
 use Rattle.eu5_date.specs.declared.Eu5Date.{Eu5Date}
-use Rattle.eu5_date.specs.declared.Made.TheVariants as M
-use Rattle.eu5_date.specs.declared.Parsed.TheVariants as P
-use Rattle.eu5_date.specs.declared.Decoded.TheVariants as D
-use Rattle.eu5_date.specs.declared.Guessed.TheVariants as G
-use Rattle.eu5_date.specs.declared.Summed.TheVariants as S
-use Rattle.eu5_date.specs.declared.Started.TheVariants as T
-use Rattle.eu5_date.specs.declared.InGame.TheVariants as I
 use Rattle.eu5_date.specs.Views.{bits, made_as, parsed_as, decoded_as, guessed_as, summed_as, started_as, in_game_as}
 
 abbrev dated : Stored → Eu5Date
@@ -21,24 +17,22 @@ pub bits-determined : Determines bits
 bits-determined = determined bits dated (λ d. refl)
 
 pub made-determined : Determines made_as
-made-determined = determined made_as (back_one (λ d. M.Date (dated d)) M.NotOfKind) (λ r. elim r as (λ k. (back_one (λ d. M.Date (dated d)) M.NotOfKind) (made_as k) ≡ k) [ M.Date d ↦ refl | M.NotOfKind ↦ refl ])
+made-determined = dates.made-determined bits dated (λ d. refl)
 
 pub parsed-determined : Determines parsed_as
-parsed-determined = determined parsed_as (back_text (λ d. P.Date (dated d)) P.TooLong P.NotText)
-    (λ r. elim r as (λ k. (back_text (λ d. P.Date (dated d)) P.TooLong P.NotText) (parsed_as k) ≡ k) [ P.Date d ↦ refl | P.TooLong ↦ refl | P.NotText ↦ refl ])
+parsed-determined = dates.parsed-determined bits dated (λ d. refl)
 
 pub decoded-determined : Determines decoded_as
-decoded-determined = determined decoded_as (back_one (λ d. D.Date (dated d)) D.NotNumber) (λ r. elim r as (λ k. (back_one (λ d. D.Date (dated d)) D.NotNumber) (decoded_as k) ≡ k) [ D.Date d ↦ refl | D.NotNumber ↦ refl ])
+decoded-determined = dates.decoded-determined bits dated (λ d. refl)
 
 pub guessed-determined : Determines guessed_as
-guessed-determined = determined guessed_as (back_one (λ d. G.Date (dated d)) G.NotNumber) (λ r. elim r as (λ k. (back_one (λ d. G.Date (dated d)) G.NotNumber) (guessed_as k) ≡ k) [ G.Date d ↦ refl | G.NotNumber ↦ refl ])
+guessed-determined = dates.guessed-determined bits dated (λ d. refl)
 
 pub summed-determined : Determines summed_as
-summed-determined = determined summed_as (back_sum (λ d. S.Date (dated d)) S.NotOfKind S.Overflow S.OutOfRange)
-    (λ r. elim r as (λ k. (back_sum (λ d. S.Date (dated d)) S.NotOfKind S.Overflow S.OutOfRange) (summed_as k) ≡ k) [ S.Date d ↦ refl | S.NotOfKind ↦ refl | S.Overflow ↦ refl | S.OutOfRange ↦ refl ])
+summed-determined = dates.summed-determined bits dated (λ d. refl)
 
 pub started-determined : Determines started_as
-started-determined = determined started_as (back_one (λ d. T.Date (dated d)) T.NotOfKind) (λ r. elim r as (λ k. (back_one (λ d. T.Date (dated d)) T.NotOfKind) (started_as k) ≡ k) [ T.Date d ↦ refl | T.NotOfKind ↦ refl ])
+started-determined = option-determined bits dated (λ d. refl) not_of_kind
 
 pub in_game-determined : Determines in_game_as
-in_game-determined = determined in_game_as (back_one I.Hour I.NotOfKind) (λ r. elim r as (λ k. (back_one I.Hour I.NotOfKind) (in_game_as k) ≡ k) [ I.Hour h ↦ refl | I.NotOfKind ↦ refl ])
+in_game-determined = option-determined (λ h. h) (λ h. h) (λ h. refl) not_of_kind

@@ -1,54 +1,34 @@
 -- The answers of the code, with document 01's number for each case. Assumes nothing.
-use Rattle.std.specs.Prelude.{ℕ}
-use Rattle.rules.specs.Refusals.{Answer, Gives, Refused, too_long, not_text, not_number, not_of_kind, sum_overflows, out_of_range}
+use Rattle.std.specs.Prelude.{ℕ, Option, Result}
+use Rattle.rules.specs.Refusals.{Answer, not_of_kind}
 use Rattle.rules.specs.Kinds.{Stored}
+use Rattle.refusals.specs.declared.Refusal.{Refusal}
+use Rattle.refusals.specs.Answers.{option_as}
 use Rattle.kinds.specs.Views.{bits_of}
+use Rattle.pds_date.specs.declared.Guessed.{Guessed}
+use Rattle.pds_date.specs.Views as dates
 use Rattle.eu5_date.specs.declared.Eu5Date.{Eu5Date}
-use Rattle.eu5_date.specs.declared.Made.{Made}
-use Rattle.eu5_date.specs.declared.Made.TheVariants as M
-use Rattle.eu5_date.specs.declared.Parsed.{Parsed}
-use Rattle.eu5_date.specs.declared.Parsed.TheVariants as P
-use Rattle.eu5_date.specs.declared.Decoded.{Decoded}
-use Rattle.eu5_date.specs.declared.Decoded.TheVariants as D
-use Rattle.eu5_date.specs.declared.Guessed.{Guessed}
-use Rattle.eu5_date.specs.declared.Guessed.TheVariants as G
-use Rattle.eu5_date.specs.declared.Summed.{Summed}
-use Rattle.eu5_date.specs.declared.Summed.TheVariants as S
-use Rattle.eu5_date.specs.declared.Started.{Started}
-use Rattle.eu5_date.specs.declared.Started.TheVariants as T
-use Rattle.eu5_date.specs.declared.InGame.{InGame}
-use Rattle.eu5_date.specs.declared.InGame.TheVariants as I
 
 abbrev pub bits : Eu5Date → Stored
 bits d = bits_of d.raw
 
-abbrev pub made_as : Made → Answer Stored
-made_as (M.Date d) = Gives (bits d)
-made_as M.NotOfKind = Refused not_of_kind
+abbrev pub made_as : Option Eu5Date → Answer Stored
+made_as r = dates.made_as bits r
 
-abbrev pub parsed_as : Parsed → Answer Stored
-parsed_as (P.Date d) = Gives (bits d)
-parsed_as P.TooLong = Refused too_long
-parsed_as P.NotText = Refused not_text
+abbrev pub parsed_as : Result Eu5Date Refusal → Answer Stored
+parsed_as r = dates.parsed_as bits r
 
-abbrev pub decoded_as : Decoded → Answer Stored
-decoded_as (D.Date d) = Gives (bits d)
-decoded_as D.NotNumber = Refused not_number
+abbrev pub decoded_as : Option Eu5Date → Answer Stored
+decoded_as r = dates.decoded_as bits r
 
-abbrev pub guessed_as : Guessed → Answer Stored
-guessed_as (G.Date d) = Gives (bits d)
-guessed_as G.NotNumber = Refused not_number
+abbrev pub guessed_as : Option (Guessed Eu5Date) → Answer Stored
+guessed_as r = dates.guessed_as bits r
 
-abbrev pub summed_as : Summed → Answer Stored
-summed_as (S.Date d) = Gives (bits d)
-summed_as S.NotOfKind = Refused not_of_kind
-summed_as S.Overflow = Refused sum_overflows
-summed_as S.OutOfRange = Refused out_of_range
+abbrev pub summed_as : Result Eu5Date Refusal → Answer Stored
+summed_as r = dates.summed_as bits r
 
-abbrev pub started_as : Started → Answer Stored
-started_as (T.Date d) = Gives (bits d)
-started_as T.NotOfKind = Refused not_of_kind
+abbrev pub started_as : Option Eu5Date → Answer Stored
+started_as r = option_as not_of_kind bits r
 
-abbrev pub in_game_as : InGame → Answer ℕ
-in_game_as (I.Hour h) = Gives h
-in_game_as I.NotOfKind = Refused not_of_kind
+abbrev pub in_game_as : Option ℕ → Answer ℕ
+in_game_as r = option_as not_of_kind (λ h. h) r

@@ -1,5 +1,5 @@
 -- Each answer is determined, where the bits of a kind's dates can be read back. Assumes nothing.
-use Rattle.std.specs.Prelude.{◌≡◌, refl}
+use Rattle.std.specs.Prelude.{◌≡◌}
 use Rattle.std.proofs.Common.{ap}
 use Rattle.rules.specs.Refusals.{not_number, not_of_kind}
 use Rattle.rules.specs.Kinds.{Stored}

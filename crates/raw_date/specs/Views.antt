@@ -1,27 +1,20 @@
 -- The answers of the code, with document 01's number for each case. Assumes nothing.
-use Rattle.rules.specs.Refusals.{Answer, Gives, Refused, too_long, not_text, not_number, not_of_kind}
+use Rattle.std.specs.Prelude.{Option, Result}
+use Rattle.rules.specs.Refusals.{Answer}
 use Rattle.rules.specs.Kinds.{Stored}
+use Rattle.refusals.specs.declared.Refusal.{Refusal}
 use Rattle.kinds.specs.Views.{bits_of}
+use Rattle.pds_date.specs.Views as dates
 use Rattle.raw_date.specs.declared.RawDate.{RawDate}
-use Rattle.raw_date.specs.declared.Made.{Made}
-use Rattle.raw_date.specs.declared.Made.TheVariants as M
-use Rattle.raw_date.specs.declared.Parsed.{Parsed}
-use Rattle.raw_date.specs.declared.Parsed.TheVariants as P
-use Rattle.raw_date.specs.declared.Decoded.{Decoded}
-use Rattle.raw_date.specs.declared.Decoded.TheVariants as D
 
 abbrev pub bits : RawDate → Stored
 bits d = bits_of d.raw
 
-abbrev pub made_as : Made → Answer Stored
-made_as (M.Date d) = Gives (bits d)
-made_as M.NotOfKind = Refused not_of_kind
+abbrev pub made_as : Option RawDate → Answer Stored
+made_as r = dates.made_as bits r
 
-abbrev pub parsed_as : Parsed → Answer Stored
-parsed_as (P.Date d) = Gives (bits d)
-parsed_as P.TooLong = Refused too_long
-parsed_as P.NotText = Refused not_text
+abbrev pub parsed_as : Result RawDate Refusal → Answer Stored
+parsed_as r = dates.parsed_as bits r
 
-abbrev pub decoded_as : Decoded → Answer Stored
-decoded_as (D.Date d) = Gives (bits d)
-decoded_as D.NotNumber = Refused not_number
+abbrev pub decoded_as : Option RawDate → Answer Stored
+decoded_as r = dates.decoded_as bits r

@@ -1,47 +1,16 @@
 // The raw date (R): any month of 1 to 31 days, with an hour of 1 to 24 or none.
 #![tactic(auto)]
 
-ghost use Rattle.std.specs.Prelude.{◌≡◌, ◌≤◌, length};
-ghost use Rattle.rules.specs.Refusals.{Gives};
-ghost use Rattle.rules.specs.Kinds.{kR, unpacked, least, greatest, from_fields, stored, store, of_date, of_dates, is_guessed, without_mark};
-ghost use Rattle.rules.specs.Numbers.{read_number};
-ghost use Rattle.rules.specs.Days.{order};
-ghost use Rattle.rules.specs.Text.{read_text};
-ghost use Rattle.rules.specs.Spelling.{dotted, iso, exchange, put_answer, put_buffer};
-ghost use Rattle.requests.specs.IsoReader.{read_iso};
-ghost use Rattle.kinds.specs.Views.{ordered_as};
-ghost use Rattle.formatter.specs.Views.{spelled_as, length_of};
-ghost use Rattle.raw_date.specs.Views.{bits, made_as, parsed_as, decoded_as};
+ghost use Rattle.std.specs.Prelude.{refl};
+ghost use Rattle.kinds.specs.declared.Kind.TheVariants.{Raw};
+ghost use Rattle.raw_date.specs.Views.{bits};
 
-use formatter::Spelled;
-use kinds::{Kind, Ordered, Packed};
-use scalar::Leading;
+use kinds::{Kind, Packed};
+use pds_date::{FromYmdh, HasHour, PdsDate, ReadsNumbers};
 
 #[derive(Clone, Copy)]
 pub struct RawDate {
     pub raw: Packed,
-}
-
-// A date of given fields.
-#[derive(Clone, Copy)]
-pub enum Made {
-    Date(RawDate),
-    NotOfKind,
-}
-
-// What a text is read as.
-#[derive(Clone, Copy)]
-pub enum Parsed {
-    Date(RawDate),
-    TooLong,
-    NotText,
-}
-
-// What the full decoder makes of a number.
-#[derive(Clone, Copy)]
-pub enum Decoded {
-    Date(RawDate),
-    NotNumber,
 }
 
 impl RawDate {
@@ -58,142 +27,40 @@ impl RawDate {
             word: 53216,
         },
     };
+}
 
-    pub fn least() -> RawDate
-        ensures { bits result ≡ stored (least kR) }
-    {
+impl PdsDate for RawDate {
+    ghost KIND = { Raw };
+
+    const KIND: Kind = Kind::Raw;
+
+    ghost bits = { bits };
+
+    fn raw(self) -> Packed {
+        self.raw
+    }
+
+    fn of_raw(raw: Packed) -> RawDate {
+        RawDate { raw }
+    }
+
+    #[tactic(auto, unfolding(rules::specs::Kinds::packed, rules::specs::Kinds::least))]
+    fn least() -> RawDate {
         RawDate::LEAST
     }
 
-    pub fn greatest() -> RawDate
-        ensures { bits result ≡ stored (greatest kR) }
-    {
+    #[tactic(auto, unfolding(rules::specs::Kinds::packed, rules::specs::Kinds::greatest))]
+    fn greatest() -> RawDate {
         RawDate::GREATEST
     }
+}
 
-    pub fn from_ymdh_opt(year: i16, month: u8, day: u8, hour: u8) -> Made
-        ensures { made_as result ≡ store (from_fields kR (record { year = year; month = month; day = day; hour = hour })) }
-    {
-        let made = kinds::make(Kind::Raw, year, month, day, hour);
-        match made {
-            kinds::Made::Date(raw) => Made::Date(RawDate { raw }),
-            kinds::Made::None => Made::NotOfKind,
-        }
-    }
+impl FromYmdh for RawDate {
+    ghost carries_hour = { λ h. refl };
+}
 
-    // The four component reads take the bits as they are; every method that gives the date a meaning tests them first.
-    pub fn year(self) -> i16
-        ensures { result ≡ self.raw.year }
-    {
-        self.raw.year
-    }
+impl HasHour for RawDate {}
 
-    pub fn month(self) -> u8
-        ensures { result ≡ (unpacked (bits self)).month }
-    {
-        kinds::month_of(self.raw)
-    }
-
-    pub fn day(self) -> u8
-        ensures { result ≡ (unpacked (bits self)).day }
-    {
-        kinds::day_of(self.raw)
-    }
-
-    pub fn hour(self) -> u8
-        ensures { result ≡ (unpacked (bits self)).hour }
-    {
-        kinds::hour_of(self.raw)
-    }
-    // Whether the date was guessed, by its mark as it is stored.
-    pub fn is_guessed(self) -> bool
-        ensures { result ≡ is_guessed (bits self) }
-    {
-        kinds::is_guessed(self.raw)
-    }
-
-    // The same date without its mark.
-    pub fn without_mark(self) -> Made
-        ensures { made_as result ≡ without_mark kR (bits self) }
-    {
-        let made = kinds::without_mark(Kind::Raw, self.raw);
-        match made {
-            kinds::Made::Date(raw) => Made::Date(RawDate { raw }),
-            kinds::Made::None => Made::NotOfKind,
-        }
-    }
-
-    pub fn parse(s: &[u8]) -> Parsed
-        ensures { parsed_as result ≡ store (read_text kR s.now) }
-    {
-        if reading::TEXT_LIMIT < s.len() {
-            return Parsed::TooLong;
-        }
-        let Leading::Number { value, next } = scalar::to_i64_t(s) else {
-            return Parsed::NotText;
-        };
-        let made = reading::read_rest(Kind::Raw, s, value, next);
-        match made {
-            kinds::Made::Date(raw) => Parsed::Date(RawDate { raw }),
-            kinds::Made::None => Parsed::NotText,
-        }
-    }
-
-    // The date whose ISO text this is, in the one spelling that is written.
-    pub fn parse_iso(s: &[u8]) -> Parsed
-        ensures { parsed_as result ≡ store (read_iso kR s.now) }
-    {
-        if reading::TEXT_LIMIT < s.len() {
-            return Parsed::TooLong;
-        }
-        let made = iso_reading::read(Kind::Raw, s);
-        match made {
-            kinds::Made::Date(raw) => Parsed::Date(RawDate { raw }),
-            kinds::Made::None => Parsed::NotText,
-        }
-    }
-
-    // For a field that is declared as a date.
-    pub fn from_binary(s: i32) -> Decoded
-        ensures { decoded_as result ≡ store (read_number kR s) }
-    {
-        let read = number::from_binary(Kind::Raw, s);
-        match read {
-            number::Read::Date(raw) => Decoded::Date(RawDate { raw }),
-            number::Read::NotNumber => Decoded::NotNumber,
-        }
-    }
-
-    pub fn compare(self, other: RawDate) -> Ordered
-        ensures { ordered_as result ≡ of_dates kR (bits self) (bits other) (λ f g. Gives (order f g)) }
-    {
-        kinds::compare(Kind::Raw, self.raw, other.raw)
-    }
-
-    // The dotted text at the front of a buffer.
-    pub fn game_fmt(self, out: &mut [u8]) -> Spelled
-        ensures result_value { spelled_as result ≡ put_answer (of_date kR (bits self) (λ f. Gives (dotted kR f))) out.old }
-        ensures out_after { out.new ≡ put_buffer (of_date kR (bits self) (λ f. Gives (dotted kR f))) out.old }
-        ensures result_in_bounds { length_of result ≤ length out.old }
-    {
-        formatter::game_fmt(Kind::Raw, self.raw, out)
-    }
-
-    // The ISO text.
-    pub fn iso_8601(self, out: &mut [u8]) -> Spelled
-        ensures result_value { spelled_as result ≡ put_answer (of_date kR (bits self) (λ f. Gives (iso kR f))) out.old }
-        ensures out_after { out.new ≡ put_buffer (of_date kR (bits self) (λ f. Gives (iso kR f))) out.old }
-        ensures result_in_bounds { length_of result ≤ length out.old }
-    {
-        formatter::iso_8601(Kind::Raw, self.raw, out)
-    }
-
-    // The exchange text.
-    pub fn exchange(self, out: &mut [u8]) -> Spelled
-        ensures result_value { spelled_as result ≡ put_answer (of_date kR (bits self) (λ f. Gives (exchange kR f))) out.old }
-        ensures out_after { out.new ≡ put_buffer (of_date kR (bits self) (λ f. Gives (exchange kR f))) out.old }
-        ensures result_in_bounds { length_of result ≤ length out.old }
-    {
-        formatter::exchange(Kind::Raw, self.raw, out)
-    }
+impl ReadsNumbers for RawDate {
+    ghost reads = { refl };
 }

@@ -1,12 +1,11 @@
 -- Each answer is determined: two that a contract allows are equal, since the view that the contract names can be read back.
 -- Assumes nothing.
-use mathlib.Core.Path.{◌≡◌, refl}
+use Rattle.std.specs.Prelude.{refl}
 use Rattle.rules.specs.Kinds.{Stored}
-use Rattle.rules.proofs.OnRefusals.Determined.{Determines, determined, back_one, back_text}
+use Rattle.rules.proofs.OnRefusals.Determined.{Determines, determined}
 use Rattle.kinds.proofs.Determined.{packed_of}
+use Rattle.pds_date.proofs.Determined as dates
 use Rattle.uniform_date.specs.declared.UniformDate.{UniformDate}
-use Rattle.uniform_date.specs.declared.Made.TheVariants as M
-use Rattle.uniform_date.specs.declared.Parsed.TheVariants as P
 use Rattle.uniform_date.specs.Views.{bits, made_as, parsed_as}
 
 abbrev dated : Stored → UniformDate
@@ -16,8 +15,7 @@ pub bits-determined : Determines bits
 bits-determined = determined bits dated (λ d. refl)
 
 pub made-determined : Determines made_as
-made-determined = determined made_as (back_one (λ d. M.Date (dated d)) M.NotOfKind) (λ r. elim r as (λ k. (back_one (λ d. M.Date (dated d)) M.NotOfKind) (made_as k) ≡ k) [ M.Date d ↦ refl | M.NotOfKind ↦ refl ])
+made-determined = dates.made-determined bits dated (λ d. refl)
 
 pub parsed-determined : Determines parsed_as
-parsed-determined = determined parsed_as (back_text (λ d. P.Date (dated d)) P.TooLong P.NotText)
-    (λ r. elim r as (λ k. (back_text (λ d. P.Date (dated d)) P.TooLong P.NotText) (parsed_as k) ≡ k) [ P.Date d ↦ refl | P.TooLong ↦ refl | P.NotText ↦ refl ])
+parsed-determined = dates.parsed-determined bits dated (λ d. refl)

@@ -1,11 +1,11 @@
 -- The answer of the code, as that of `rules`. Assumes nothing.
-use Rattle.rules.specs.Refusals.{Answer, Gives, Refused, too_long, not_text}
+use Rattle.std.specs.Prelude.{Result}
+use Rattle.rules.specs.Refusals.{Answer}
 use Rattle.rules.specs.Kinds.{Stored}
+use Rattle.refusals.specs.declared.Refusal.{Refusal}
+use Rattle.refusals.specs.Answers.{result_as}
+use Rattle.kinds.specs.declared.Packed.{Packed}
 use Rattle.kinds.specs.Views.{bits_of}
-use Rattle.by_kind.specs.declared.Parsed.{Parsed}
-use Rattle.by_kind.specs.declared.Parsed.TheVariants as P
 
-abbrev pub parsed_as : Parsed → Answer Stored
-parsed_as (P.Date p) = Gives (bits_of p)
-parsed_as P.TooLong = Refused too_long
-parsed_as P.NotText = Refused not_text
+abbrev pub parsed_as : Result Packed Refusal → Answer Stored
+parsed_as r = result_as bits_of r

@@ -3,7 +3,7 @@
 use mathlib.Core.Path.{◌≡◌, refl, sym, ap, ◌∙◌}
 use mathlib.Core.Bool.{Bool, true, false}
 use Rattle.std.specs.Prelude.{Option, Some, None, ok_or}
-use mathlib.Core.List.{List, [], ◌∷◌, append_assoc}
+use mathlib.Core.List.{List, [], ◌∷◌}
 use Prim.Native.Nat.{ℕ, ◌+◌, ◌*◌, ◌-◌, ◌/◌, ◌≤◌, ◌<◌}
 use native.Mathlib.Nat.{add-zero}
 use native.Mathlib.Omega.{arith}
@@ -11,8 +11,7 @@ use borrow.Author.Tests.{le-leb, lt-leb, eqb-true}
 use lib.Dec.{eqb}
 use lib.IntN.{ℤ}
 use lib.ListN.{length, get_or, take, drop, length-drop}
-use lib.Seq.{sets, sets-eq, get_or-take, get_or-drop, length-take-le, drop-drop}
-use borrow.Rule.Slice.PartMut.{put_mid}
+use lib.Seq.{get_or-take, get_or-drop, length-take-le}
 use Rattle.rules.specs.Words.{big_endian}
 use Rattle.rules.specs.Refusals.{Answer, Gives, Refused, RefusedAt, ◌then◌, demand, given, not_of_kind, bad_record, no_record}
 use Rattle.rules.specs.Kinds as K
@@ -90,13 +89,6 @@ module _ (s : List ℕ) (at size : ℕ) (inside : at + size ≤ length s) where
   field-there h =
       let e : at + 1 + 1 ≡ at + 2 = omega arith in
       rw (le-leb field_record_size size h, two_at 1 (omega arith), e, two (get_or s (at + 1) 0) (get_or s (at + 2) 0))
-
--- ---- a record's bytes, where a copy into `&mut s[at..at + n]` puts them
-
-pub put-at : (s v : List ℕ) (at : ℕ) → at + length v ≤ length s → put_mid at (at + length v - at) s v ≡ sets s at v
-put-at s v at h =
-    let e : at + length v - at ≡ length v = omega arith in
-    rw (e, drop-drop) (sym (append_assoc (take at s) v (drop (at + length v) s)) ∙ sym (sets-eq v s at h))
 
 -- ---- what a record is, by the tests that the code makes
 

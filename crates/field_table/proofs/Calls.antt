@@ -53,19 +53,19 @@ any-most key_size most most' version freed (Gives rs) s = refl
 any-most key_size most most' version freed (Refused n) s = refl
 any-most key_size most most' version freed (RefusedAt n place) s = refl
 
+-- a refusal changes no byte
+pub unchanged : (table : TableFormat) (freed : ℕ) (s : List ℕ) (x : Answer (List (List ℕ))) → given x ≡ false → s ≡ table_buffer table freed x s
+unfolding table_buffer
+unchanged table freed s (Gives rs) g = cc
+unchanged table freed s (Refused n) g = refl
+unchanged table freed s (RefusedAt n place) g = refl
+
 -- what refuses the frame refuses the table
 pub frame-refusing : (table : TableFormat) (s : List ℕ) (e : Refusal) → refusal_as e ≡ pieces_counted (table_frame table) s → refusal_as e ≡ check table s
 unfolding counted entries
 frame-refusing table s e h = rw (refused-before e (framed (table_frame table) s) length (sym (counted_is (table_frame table) s) ∙ sym h), refusal-then e, refusal-then e)
 
 module _ (s : List ℕ) where
-  -- a refusal changes no byte
-  unchanged : (table : TableFormat) (freed : ℕ) (x : Answer (List (List ℕ))) → given x ≡ false → s ≡ table_buffer table freed x s
-  unfolding table_buffer
-  unchanged table freed (Gives rs) g = cc
-  unchanged table freed (Refused n) g = refl
-  unchanged table freed (RefusedAt n place) g = refl
-
   -- ---- the check refused
 
   pub entries-refused : {n : ℕ} → Refused n ≡ check table1 s → entries table1 s ≡ Refused n
@@ -107,12 +107,12 @@ module _ (s : List ℕ) where
     pub declare-refusing : (field code : ℕ) → (refusal_as e ≡ counted (declared table1 s field code)) × (s ≡ declare_buffer table1 s field code)
     unfolding declared counted
     declare-refusing field code =
-        rw (entries-refusing, refusal-then e) (sym (refusal-then e _), unchanged table1 0 (refusal_as e) (refused _ e))
+        rw (entries-refusing, refusal-then e) (sym (refusal-then e _), unchanged table1 0 s (refusal_as e) (refused _ e))
 
     pub remove-refusing : (field : ℕ) → (refusal_as e ≡ counted (removed table1 s field)) × (s ≡ remove_buffer table1 s field)
     unfolding removed counted
     remove-refusing field =
-        rw (entries-refusing, refusal-then e) (sym (refusal-then e _), unchanged table1 3 (refusal_as e) (refused _ e))
+        rw (entries-refusing, refusal-then e) (sym (refusal-then e _), unchanged table1 3 s (refusal_as e) (refused _ e))
 
   -- ---- it counted n
 

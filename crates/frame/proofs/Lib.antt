@@ -1,3 +1,4 @@
 pub mod Counts
 pub mod Determined
+pub mod Parts
 pub mod Refusing

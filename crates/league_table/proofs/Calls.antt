@@ -11,8 +11,12 @@ use Rattle.rules.specs.Refusals.{Gives, Refused, ◌then◌, given, no_record}
 use Rattle.rules.specs.Kinds.{Kind}
 use Rattle.rules.specs.Book.{head_size, version_of, pick}
 use Rattle.rules.proofs.OnBook.PieceLaws.{piece-count, pick-past, pick-piece}
+use Rattle.refusals.specs.declared.Refusal.{Refusal}
+use Rattle.refusals.specs.Answers.{refusal_as}
+use Rattle.refusals.proofs.RefusalLaws.{refused, refusal-then}
+use Rattle.frame.proofs.Refusing.{refused-before}
 use Rattle.requests.specs.Entries.{ascends, place, standing}
-use Rattle.requests.specs.FieldTable.{bad_entry, key_in, game_kind, declared_by, in_order, counted, table_buffer, look_by}
+use Rattle.requests.specs.FieldTable.{bad_entry, key_in, game_kind, declared_by, in_order, entries, counted, check, table_buffer, look_by}
 use Rattle.requests.specs.Leagues.{table2, is_league, is_field, key_for, own, shared_entries, own_of, own_entries, own_declared, own_entry_at, own_declaration, own_declare_buffer, own_removal, own_remove_buffer, own_lookup}
 use Rattle.requests.proofs.OnEntries.OrderLaws.{place-within}
 use Rattle.requests.proofs.OnEntries.PartLaws.{part-pick}
@@ -20,6 +24,8 @@ use Rattle.requests.proofs.OnFieldTable.EntryLaws.{all_here}
 use Rattle.requests.proofs.OnFieldTable.HeldLaws.{Holds, check-fits, check-most}
 use Rattle.requests.proofs.OnLeagues.SharedLaws.{sensible2, holds, count-checks, count_entries, count-shared, count-refused}
 use Rattle.field_table.specs.Search.{Room, entries_in}
+use Rattle.field_table.specs.Views.{in_bits}
+use Rattle.field_table.proofs.Calls.{unchanged}
 use Rattle.league_table.proofs.Counts.{places}
 
 -- ---- the check refused
@@ -48,6 +54,41 @@ module _ (s : List ℕ) {n : ℕ} (e : Refused n ≡ counted (shared_entries s))
   pub remove-not : (league field : ℕ) → (Refused n ≡ counted (own_of league (own_removal s league field))) × (s ≡ own_remove_buffer s league field)
   unfolding own_removal own_of counted table_buffer
   remove-not league field = rw refusing (refl, refl)
+
+-- ---- the same, by the refusal that the code has
+
+module _ (s : List ℕ) (e : Refusal) (h : refusal_as e ≡ counted (shared_entries s)) where
+  shared-refusing : shared_entries s ≡ refusal_as e
+  unfolding counted
+  shared-refusing = refused-before e (shared_entries s) length (sym h)
+
+  pub check-refusing : (league : ℕ) → refusal_as e ≡ counted (own_entries s league)
+  unfolding own_entries counted
+  check-refusing league = rw (shared-refusing, refusal-then e, refusal-then e)
+
+  pub entry-refusing : (league place : ℕ) → refusal_as e ≡ own_entry_at s league place
+  unfolding own_entries own_entry_at
+  entry-refusing league place = rw (shared-refusing, refusal-then e, refusal-then e)
+
+  pub look-refusing : (league field game : ℕ) (z : ℤ) → refusal_as e ≡ in_bits (own_lookup s league field game z)
+  unfolding own_lookup
+  look-refusing league field game z = rw (shared-refusing, refusal-then e, refusal-then e)
+
+  pub declare-refusing : (league field code : ℕ) →
+      (refusal_as e ≡ counted (own_of league (own_declaration s league field code))) × (s ≡ own_declare_buffer s league field code)
+  unfolding own_declaration own_of counted
+  declare-refusing league field code =
+      rw (shared-refusing, refusal-then e, refusal-then e) (sym (refusal-then e _), unchanged table2 0 s (refusal_as e) (refused _ e))
+
+  pub remove-refusing : (league field : ℕ) → (refusal_as e ≡ counted (own_of league (own_removal s league field))) × (s ≡ own_remove_buffer s league field)
+  unfolding own_removal own_of counted
+  remove-refusing league field =
+      rw (shared-refusing, refusal-then e, refusal-then e) (sym (refusal-then e _), unchanged table2 4 s (refusal_as e) (refused _ e))
+
+-- what refuses the table refuses the two leagues
+pub shares-refusing : (s : List ℕ) (e : Refusal) → refusal_as e ≡ check table2 s → refusal_as e ≡ counted (shared_entries s)
+unfolding shared_entries counted
+shares-refusing s e h = rw (refused-before e (entries table2 s) length (sym h), refusal-then e, refusal-then e)
 
 -- ---- it counted n
 

@@ -8,6 +8,7 @@ use native.Mathlib.Omega.{arith}
 use borrow.Author.Tests.{eq-eqb, ne_eqb, le-leb, lt-leb, lt-ltb, le-ltb}
 use lib.Dec.{leb, ltb, eqb}
 use lib.ListN.{length, drop}
+use Rattle.std.specs.Prelude.{Result, Ok, Err, is_ok}
 use Rattle.rules.specs.Words.{big_bytes}
 use Rattle.rules.specs.Book.{head_size}
 use Rattle.rules.proofs.OnBook.PieceLaws.{piece-count}
@@ -16,7 +17,6 @@ use Rattle.requests.specs.FieldTable.{key_in}
 use Rattle.requests.specs.Leagues.{key_for, own_key, own, all_owned, within_shares, share_most}
 use Rattle.requests.proofs.OnEntries.PartLaws.{place-between, part-fewer}
 use Rattle.requests.proofs.OnLeagues.OwnLaws.{owned-counts}
-use Rattle.field_table.specs.declared.sized.Found.TheVariants as F
 use Rattle.field_table.specs.Search.{entries_in, find_of}
 use Rattle.field_table.proofs.Finds.{at-tells, absent-tells}
 
@@ -70,8 +70,13 @@ module _ (n : ℕ) (s : List ℕ) where
     may-share l = rw (lt-ltb held share_most l) (sym (or-true (some (standing (key_in 3) key rs))))
 
     module _ (a : ascends (key_in 3) 0 rs ≡ true) where
-      pub may-over : {i : ℕ} → F.At i ≡ find_of 3 key rs → May true
+      pub may-over : {i : ℕ} → Ok i ≡ find_of 3 key rs → May true
       may-over {i} e = rw (at-tells 3 n s key i a e).only
 
-      pub may-not : {i : ℕ} → share_most ≤ held → F.Absent i ≡ find_of 3 key rs → May false
+      pub may-not : {i : ℕ} → share_most ≤ held → Err i ≡ find_of 3 key rs → May false
       may-not {i} l e = rw ((absent-tells 3 n s key i a e).none, le-ltb held share_most l)
+
+      -- by what the search answered
+      pub may-find : (r : Result ℕ ℕ) → share_most ≤ held → r ≡ find_of 3 key rs → May (is_ok r)
+      may-find (Ok i) l e = may-over e
+      may-find (Err i) l e = may-not l e

@@ -2,19 +2,25 @@
 -- Assumes nothing.
 use mathlib.Core.Path.{◌≡◌, refl, sym, ap}
 use mathlib.Core.List.{List, map}
-use Prim.Native.Nat.{ℕ, suc, ◌+◌, ◌*◌, ◌≤◌, ◌<◌}
+use Prim.Native.Nat.{ℕ, suc, ◌+◌, ◌*◌, ◌-◌, ◌≤◌, ◌<◌}
 use native.Mathlib.Nat.{add-zero}
 use native.Mathlib.Omega.{arith}
 use borrow.Author.Tests.{le-leb, lt-leb}
 use lib.Dec.{lit<}
-use lib.ListN.{length, get_or, take, drop, set}
-use lib.Seq.{sets}
+use lib.ListN.{length, take, drop, set, length-set, length-drop}
+use lib.Seq.{sets, length-take-le}
+use borrow.Rule.Slice.PartMut.{put_mid}
 use Rattle.rules.specs.Words.{big_bytes}
 use Rattle.rules.specs.Refusals.{Answer, Gives, Refused}
 use Rattle.rules.specs.Book.{length_size, head_size, pieces}
-use Rattle.rules.proofs.Shared.Rests.{here}
 use Rattle.rules.proofs.OnBook.PieceLaws.{piece-count}
 use Rattle.rules.proofs.OnBook.FrameLaws.{Sensible, same-refusal}
+use Rattle.refusals.specs.declared.Refusal.{Refusal}
+use Rattle.refusals.specs.Answers.{refusal_as}
+use Rattle.refusals.proofs.RefusalLaws.{refused, refusal-then}
+use Rattle.frame.proofs.Refusing.{refused-before}
+use Rattle.frame.proofs.Parts.{put-at}
+use Rattle.field_table.proofs.Calls.{unchanged}
 use Rattle.requests.specs.Laid.{joined}
 use Rattle.requests.specs.FieldTable.{table_frame, table1, table_full, entries, counted, check, table_buffer}
 use Rattle.requests.specs.Leagues.{table2, share_most, of_first, moved_entries, moved_buffer}
@@ -24,15 +30,16 @@ use Rattle.requests.proofs.OnFieldTable.HeldLaws.{sensible-table, check-entries,
 
 -- ---- one entry
 
--- its bytes, each stored after the other, league 1 before them
-pub first-stores : (s t : List ℕ) (at target : ℕ) → at + 3 ≤ length s →
-    set (set (set (set t target 1) (target + 1) (get_or s at 0)) (target + 2) (get_or s (at + 1) 0)) (target + 3) (get_or s (at + 2) 0) ≡ sets t target (of_first (take 3 (drop at s)))
-first-stores s t at target h =
-    let a₂ : at + 1 + 1 ≡ at + 2 = omega arith in
-    let t₁ : target + 1 ≡ suc target = omega arith in
-    let t₂ : target + 2 ≡ suc (suc target) = omega arith in
-    let t₃ : target + 3 ≡ suc (suc (suc target)) = omega arith in
-    rw (here s at (omega arith), here s (at + 1) (omega arith), a₂, here s (at + 2) (omega arith), t₁, t₂, t₃)
+-- its bytes, league 1 before them
+pub first-stores : (s t : List ℕ) (at target : ℕ) → at + 3 ≤ length s → target + 4 ≤ length t → {v : List ℕ} → v ≡ take (at + 3 - at) (drop at s) →
+    put_mid (target + 1) (target + 4 - (target + 1)) (set t target 1) v ≡ sets t target (of_first (take 3 (drop at s)))
+first-stores s t at target h room {v} e =
+    let n : at + 3 - at ≡ 3 = omega arith in
+    let is : v ≡ take 3 (drop at s) = rw n at e in
+    let three : length (take 3 (drop at s)) ≡ 3 = length-take-le 3 (drop at s) (rw length-drop (omega arith)) in
+    let m : target + 4 - (target + 1) ≡ target + 1 + length (take 3 (drop at s)) - (target + 1) = omega arith in
+    let next : target + 1 ≡ suc target = omega arith in
+    rw (is, m, put-at (set t target 1) (take 3 (drop at s)) (target + 1) (rw length-set (omega arith)), next)
 
 pub first-long : (r : List ℕ) → Long 3 r → Long 4 (of_first r)
 first-long r l = omega arith
@@ -50,6 +57,11 @@ module _ (s t : List ℕ) where
   pub moved-not : {n : ℕ} → Refused n ≡ check table1 s → Moves (Refused n) t
   unfolding moved_entries counted table_buffer
   moved-not {n} e = rw (same-refusal (entries table1 s) length n (sym e)) (refl, refl)
+
+  pub moved-refusing : (e : Refusal) → refusal_as e ≡ check table1 s → Moves (refusal_as e) t
+  unfolding moved_entries counted
+  moved-refusing e h =
+      rw (refused-before e (entries table1 s) length (sym h), refusal-then e) (sym (refusal-then e _), unchanged table2 0 t (refusal_as e) (refused _ e))
 
   module _ {n : ℕ} (e : Gives n ≡ check table1 s) where
     abbrev rs : List (List ℕ)

@@ -15,20 +15,14 @@ const FIELDS: usize = 65536;
 pub fn is_league(league: u32) -> bool
     ensures { result ≡ is_league league }
 {
-    if league < 1 {
-        return false;
-    }
-    league <= 2
+    1 <= league && league <= 2
 }
 
 // Whether a call names a league and a field.
 pub fn names_field(league: u32, field: u32) -> bool
     ensures { result ≡ (is_league league && is_field field) }
 {
-    if is_league(league) {
-        return allowed::is_field(field);
-    }
-    false
+    is_league(league) && allowed::is_field(field)
 }
 
 pub fn key_for(league: u32, field: u32) -> usize
@@ -42,10 +36,6 @@ pub fn entry_bytes(key: usize, kind: Kind) -> [u8; KEY_SIZE + 1]
     requires { key < 16777216 }
     ensures { result ≡ entry_bytes 3 (record { key = key; kind = kind_of kind }) }
 {
-    [
-        (key / 65536) as u8,
-        (key / 256 % 256) as u8,
-        (key % 256) as u8,
-        codes::kind_code(kind),
-    ]
+    let [_, k2, k1, k0] = (key as u32).to_be_bytes();
+    [k2, k1, k0, codes::kind_code(kind)]
 }

@@ -8,14 +8,12 @@ ghost use Rattle.requests.specs.FieldTable.{counted};
 ghost use Rattle.requests.specs.Leagues.{of_first, moved_entries, moved_buffer};
 ghost use Rattle.field_table.specs.Views.{changed_as};
 
-use crate::{KEY_SIZE, SHARE, VERSION};
-use field_table::{Changed, Checked};
+use crate::{FORMAT, SHARE, SIZE};
 use frame::{HEAD_SIZE, LENGTH_SIZE};
+use refusals::Refusal;
 
-// The bytes of an entry of version 1, and of one of version 2.
+// The bytes of an entry of version 1.
 const OLD_SIZE: usize = field_table::KEY_SIZE + 1;
-
-const SIZE: usize = KEY_SIZE + 1;
 
 // The entry at `at`, with league 1 before it.
 fn put_first(from: &[u8], at: usize, to: &mut [u8], target: usize)
@@ -23,9 +21,7 @@ fn put_first(from: &[u8], at: usize, to: &mut [u8], target: usize)
     ensures { to.new ≡ sets to.old target (of_first (take 3 (drop at from.now))) }
 {
     to[target] = 1;
-    to[target + 1] = from[at];
-    to[target + 2] = from[at + 1];
-    to[target + 3] = from[at + 2];
+    to[target + 1..target + SIZE].copy_from_slice(&from[at..at + OLD_SIZE]);
 }
 
 // The first n entries, from the head on.
@@ -33,34 +29,22 @@ fn put_all(from: &[u8], to: &mut [u8], n: usize)
     requires { (head_size + n * 3 ≤ length from.now) × (head_size + n * 4 ≤ length to.old) }
     ensures { to.new ≡ sets to.old head_size (joined (map of_first (pieces n 3 (drop head_size from.now)))) }
 {
-    let mut i = 0;
-    while i < n {
+    for i in 0..n {
         put_first(from, HEAD_SIZE + i * OLD_SIZE, to, HEAD_SIZE + i * SIZE);
-        i += 1;
     }
 }
 
 // Moves a version 1 table of at most as many entries as a league's share. Gives how many there are.
-pub fn from_table(from: &[u8], to: &mut [u8]) -> Changed
+pub fn from_table(from: &[u8], to: &mut [u8]) -> Result<usize, Refusal>
     ensures result_value { changed_as result ≡ counted (moved_entries from.now to.old) }
     ensures to_after { to.new ≡ moved_buffer from.now to.old }
 {
-    let checked = field_table::check(from);
-    match checked {
-        Checked::Entries(n) => {
-            if SHARE < n {
-                return Changed::Full;
-            }
-            if to.len() < HEAD_SIZE + n * SIZE {
-                return Changed::Full;
-            }
-            frame::put_length(to, 1 + n * SIZE);
-            to[LENGTH_SIZE] = VERSION;
-            put_all(from, to, n);
-            Changed::Entries(n)
-        }
-        Checked::BadLength => Changed::BadLength,
-        Checked::BadVersion => Changed::BadVersion,
-        Checked::BadEntry => Changed::BadEntry,
+    let n = field_table::check(from)?;
+    if SHARE < n || to.len() < HEAD_SIZE + n * SIZE {
+        return Err(Refusal::TableFull);
     }
+    frame::put_length(to, 1 + n * SIZE);
+    to[LENGTH_SIZE] = FORMAT.version;
+    put_all(from, to, n);
+    Ok(n)
 }

@@ -8,9 +8,9 @@ ghost use Rattle.field_table.specs.Search.{Room, entries_in};
 ghost use Rattle.field_table.specs.Views.{changed_as, entry_as};
 ghost use Rattle.league_table.specs.Told.{Countable, own_after};
 
-use crate::{KEY_SIZE, SHARE, keys};
-use field_table::sized::Found;
-use field_table::{Changed, Entry, sized};
+use crate::{FORMAT, SHARE, keys};
+use field_table::Entry;
+use refusals::Refusal;
 
 // The greatest field number, and the numbers of two bytes.
 const LAST_FIELD: u32 = 65535;
@@ -23,7 +23,7 @@ pub fn start(b: &[u8], n: usize, league: u32) -> usize
     requires b_value { ascends (key_in 3) 0 (entries_in 3 n b.now) ≡ true }
     ensures { result ≡ place (key_in 3) (key_for league 1) (entries_in 3 n b.now) }
 {
-    sized::place_of(b, n, KEY_SIZE, keys::key_for(league, 1))
+    FORMAT.place_of(b, n, keys::key_for(league, 1))
 }
 
 // How many of the entries are the league's, by the places of its first key and of the one after its last.
@@ -34,7 +34,7 @@ pub fn count(b: &[u8], n: usize, league: u32) -> usize
 {
     let first = start(b, n, league);
     let past = keys::key_for(league, LAST_FIELD) + 1;
-    sized::place_of(b, n, KEY_SIZE, past) - first
+    FORMAT.place_of(b, n, past) - first
 }
 
 // Whether each entry is a league's, and neither league has more than its share.
@@ -48,10 +48,7 @@ pub fn shared(b: &[u8], n: usize) -> bool
     if first + second != n {
         return false;
     }
-    if SHARE < first {
-        return false;
-    }
-    second <= SHARE
+    first <= SHARE && second <= SHARE
 }
 
 // Whether a league that has so many entries may declare a key: it is there, or the league's share is not full.
@@ -60,43 +57,25 @@ pub fn may_declare(b: &[u8], n: usize, own: usize, key: usize) -> bool
     requires b_value { ascends (key_in 3) 0 (entries_in 3 n b.now) ≡ true }
     ensures { result ≡ (some (standing (key_in 3) key (entries_in 3 n b.now)) || ltb own share_most) }
 {
-    if own < SHARE {
-        return true;
-    }
-    let found = sized::find(b, n, KEY_SIZE, key);
-    match found {
-        Found::At(_) => true,
-        Found::Absent(_) => false,
-    }
+    own < SHARE || FORMAT.find(b, n, key).is_ok()
 }
 
 // What a league that had `own` of n entries is told of a change of its own: how many it has then.
-pub fn after(changed: Changed, n: usize, own: usize) -> Changed
+pub fn after(changed: Result<usize, Refusal>, n: usize, own: usize) -> Result<usize, Refusal>
     requires { Countable own n (changed_as changed) }
     ensures { changed_as result ≡ own_after own n (changed_as changed) }
 {
-    match changed {
-        Changed::Entries(m) => Changed::Entries(own + m - n),
-        Changed::BadLength => Changed::BadLength,
-        Changed::BadVersion => Changed::BadVersion,
-        Changed::BadEntry => Changed::BadEntry,
-        Changed::Full => Changed::Full,
-        Changed::NotThere => Changed::NotThere,
-    }
+    let m = changed?;
+    Ok(own + m - n)
 }
 
 // What a league is told of an entry of its own: the field, without the league.
-pub fn without_league(entry: Entry) -> Entry
+pub fn without_league(entry: Result<Entry, Refusal>) -> Result<Entry, Refusal>
     ensures { entry_as result ≡ (entry_as entry then λ d. Gives (own_declared d)) }
 {
-    match entry {
-        Entry::Field { field, kind } => Entry::Field {
-            field: field % FIELDS,
-            kind,
-        },
-        Entry::BadLength => Entry::BadLength,
-        Entry::BadVersion => Entry::BadVersion,
-        Entry::BadEntry => Entry::BadEntry,
-        Entry::NoEntry => Entry::NoEntry,
-    }
+    let Entry { field, kind } = entry?;
+    Ok(Entry {
+        field: field % FIELDS,
+        kind,
+    })
 }

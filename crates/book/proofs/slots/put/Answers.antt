@@ -1,5 +1,5 @@
 -- A copy into a part of the buffer is a run of stores.
-use Rattle.book.proofs.Laws.{put-at}
+use Rattle.frame.proofs.Parts.{put-at}
 use Rattle.book.proofs.slots.put.Goals as goal
 
 pub returns : goal.returns

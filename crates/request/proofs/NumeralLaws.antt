@@ -9,6 +9,10 @@ use lib.IntN.{ℤ, pos, nat_abs}
 use lib.ListN.{length, get_or}
 use lib.Signed.{le_z}
 use borrow.Author.Tests.{le-leb, eqb-true, ne_eqb}
+use mir.Syntax.{w32}
+use mir.Val.{SFits}
+use Rattle.std.specs.Prelude.{Result, Ok, Err, OkIff}
+use Rattle.std.specs.Result.{result_ok}
 use Rattle.sign.specs.Halves.{up, dn}
 use Rattle.sign.proofs.Laws.{le-true, one_side, abs_is}
 use Rattle.rules.specs.Words.{within, minus, fits32}
@@ -17,6 +21,8 @@ use Rattle.rules.specs.Text.{Read, is_digit, digits, after_digits, decimal_value
 use Rattle.rules.specs.Listing.{digits_as_number, line_number}
 use Rattle.rules.proofs.OnKinds.KindLaws.{left, right}
 use Rattle.scalar.specs.Number.{most63, leading_number}
+use Rattle.reading.proofs.Laws.{held32, not-held32}
+use Rattle.request.specs.Views.{numeral_as}
 use Rattle.request.specs.Numerals.{few_digits, whole, whole_read}
 
 -- ---- digits to the end
@@ -120,3 +126,10 @@ pub few-some : (t : List ℕ) → 1 ≤ length t →
 unfolding few_digits
 few-some [] h = absurd (omega arith)
 few-some (b ∷ s) h = let e : suc (length s) - 1 ≡ length s = omega arith in rw e
+
+-- ---- whether it fits
+
+pub whole-told : {E : Type 0} (y : ℤ) (r : Result ℤ E) → OkIff r (SFits w32 y) y → numeral_as (result_ok r) ≡ whole y
+unfolding whole
+whole-told {E = E} y (Ok n) told = rw (held32 {E = E} y (Ok n) told refl).0 (ap Gives told.1)
+whole-told {E = E} y (Err e) told = rw (not-held32 {E = E} y (Err e) told refl)

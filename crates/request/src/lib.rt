@@ -8,17 +8,17 @@ ghost use Rattle.rules.specs.Listing.{by_text, by_number, by_guess, has_way, dat
 ghost use Rattle.kinds.specs.Views.{kind_of};
 ghost use Rattle.request.specs.Views.{way_of, mark_by, asked_as, refusal_in};
 
-use by_kind::Parsed;
 use kinds::{Kind, Packed};
 pub use line::read_line;
-use number::{Guess, Read};
-pub use numeral::{Numeral, number};
+use number::Guess;
+pub use numeral::number;
+use refusals::Refusal;
 
 mod line;
 mod numeral;
 
 // How the rest of a line is read: as text, as a number by the full decoder, as a number by the guess.
-#[derive(Clone, Copy)]
+#[derive(Clone, Copy, PartialEq, Eq)]
 pub enum Way {
     Text,
     Number,
@@ -26,61 +26,38 @@ pub enum Way {
 }
 
 // What a line asks for: its rest, from place 4 on, read as a date of this kind in this way.
-#[derive(Clone, Copy)]
-pub enum Request {
-    Ask { kind: Kind, way: Way },
-    Unreadable,
+#[derive(Clone, Copy, PartialEq, Eq)]
+pub struct Request {
+    pub kind: Kind,
+    pub way: Way,
 }
 
-// The date of a line's rest, or the number of the refusal.
-#[derive(Clone, Copy)]
-pub enum Asked {
-    Date(Packed),
-    Refused(u8),
-}
-
-fn date_by_text(kind: Kind, s: &[u8]) -> Asked
+fn date_by_text(kind: Kind, s: &[u8]) -> Result<Packed, Refusal>
     requires { 4 ≤ length s.now }
     ensures { asked_as result ≡ store (date_by by_text (kind_of kind) (drop 4 s.now)) }
 {
-    let parsed = by_kind::parse(kind, &s[4..]);
-    match parsed {
-        Parsed::Date(date) => Asked::Date(date),
-        Parsed::TooLong => Asked::Refused(refusals::TOO_LONG),
-        Parsed::NotText => Asked::Refused(refusals::NOT_TEXT),
-    }
+    by_kind::parse(kind, &s[4..])
 }
 
-fn date_by_number(kind: Kind, s: &[u8]) -> Asked
+fn date_by_number(kind: Kind, s: &[u8]) -> Result<Packed, Refusal>
     requires { reads_numbers (kind_of kind) ≡ true }
     ensures { asked_as result ≡ store (date_by by_number (kind_of kind) (drop 4 s.now)) }
 {
-    let Numeral::Value(n) = number(s, 4) else {
-        return Asked::Refused(refusals::NOT_TEXT);
-    };
-    let read = number::from_binary(kind, n);
-    match read {
-        Read::Date(date) => Asked::Date(date),
-        Read::NotNumber => Asked::Refused(refusals::NOT_NUMBER),
-    }
+    let n = number(s, 4).ok_or(Refusal::NotText)?;
+    number::from_binary(kind, n).ok_or(Refusal::NotNumber)
 }
 
-fn date_by_guess(kind: Kind, s: &[u8]) -> Asked
+fn date_by_guess(kind: Kind, s: &[u8]) -> Result<Packed, Refusal>
     requires { guesses (kind_of kind) ≡ true }
     ensures { asked_as result ≡ store_guess (date_by by_guess (kind_of kind) (drop 4 s.now)) }
 {
-    let Numeral::Value(n) = number(s, 4) else {
-        return Asked::Refused(refusals::NOT_TEXT);
-    };
-    let guess = number::from_binary_heuristic(kind, n);
-    match guess {
-        Guess::Date(date) => Asked::Date(date),
-        Guess::NotNumber => Asked::Refused(refusals::NOT_NUMBER),
-    }
+    let n = number(s, 4).ok_or(Refusal::NotText)?;
+    let Guess { date } = number::from_binary_heuristic(kind, n).ok_or(Refusal::NotNumber)?;
+    Ok(date)
 }
 
 // The date that the rest of a line gives: what `read_line` answered is what this asks of its caller.
-pub fn date_by(kind: Kind, way: Way, s: &[u8]) -> Asked
+pub fn date_by(kind: Kind, way: Way, s: &[u8]) -> Result<Packed, Refusal>
     requires way_value { has_way (kind_of kind) (way_of way) ≡ true }
     requires in_bounds { 4 ≤ length s.now }
     ensures result_value { asked_as result ≡ store_with (mark_by (way_of way)) (date_by (way_of way) (kind_of kind) (drop 4 s.now)) }

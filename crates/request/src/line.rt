@@ -5,23 +5,17 @@ ghost use Rattle.kinds.specs.Views.{kind_of};
 ghost use Rattle.request.specs.Views.{way_of, way_as, request_as, has_way_in, rest_at};
 
 use crate::{Request, Way};
-use codes::Lettered;
 use kinds::Kind;
 
-#[derive(Clone, Copy)]
-enum WayRead {
-    Way(Way),
-    None,
-}
-
-fn way_of_letter(b: u8) -> WayRead
+#[tactic(auto, unfolding(rules::specs::Listing::way_of_letter))]
+fn way_of_letter(b: u8) -> Option<Way>
     ensures { way_as result ≡ way_of_letter b }
 {
     match b {
-        b't' => WayRead::Way(Way::Text),
-        b'b' => WayRead::Way(Way::Number),
-        b'g' => WayRead::Way(Way::Guess),
-        _ => WayRead::None,
+        b't' => Some(Way::Text),
+        b'b' => Some(Way::Number),
+        b'g' => Some(Way::Guess),
+        _ => None,
     }
 }
 
@@ -36,28 +30,24 @@ fn has_way(kind: Kind, way: Way) -> bool
 }
 
 // The kind and the way that a line names, where that kind has that way.
-pub fn read_line(s: &[u8]) -> Request
+pub fn read_line(s: &[u8]) -> Option<Request>
     ensures result_value { request_as s.now result ≡ read_line s.now }
     ensures result_value_2 { has_way_in result ≡ true }
     ensures result_in_bounds { rest_at result ≤ length s.now }
 {
     if s.len() < 4 {
-        return Request::Unreadable;
+        return None;
     }
     if s[1] != b' ' {
-        return Request::Unreadable;
+        return None;
     }
     if s[3] != b' ' {
-        return Request::Unreadable;
+        return None;
     }
-    let Lettered::Kind(kind) = codes::kind_of_letter(s[0]) else {
-        return Request::Unreadable;
-    };
-    let WayRead::Way(way) = way_of_letter(s[2]) else {
-        return Request::Unreadable;
-    };
+    let kind = codes::kind_of_letter(s[0])?;
+    let way = way_of_letter(s[2])?;
     if has_way(kind, way) {
-        return Request::Ask { kind, way };
+        return Some(Request { kind, way });
     }
-    Request::Unreadable
+    None
 }

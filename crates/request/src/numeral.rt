@@ -7,20 +7,10 @@ ghost use Rattle.request.specs.Views.{numeral_as};
 
 use scalar::Leading;
 
-// A number of 32 bits, or none.
-#[derive(Clone, Copy)]
-pub enum Numeral {
-    Value(i32),
-    None,
-}
-
 fn one_to_ten(n: usize) -> bool
     ensures { result ≡ within 1 10 n }
 {
-    if 1 <= n {
-        return n <= 10;
-    }
-    false
+    1 <= n && n <= 10
 }
 
 // Whether 1 to 10 bytes follow a `-`, or stand alone. A leading number may begin with `+` too; this one may not.
@@ -40,37 +30,28 @@ fn few_digits(t: &[u8]) -> bool
     one_to_ten(t.len())
 }
 
-fn whole32(value: i64) -> Numeral
+fn whole32(value: i64) -> Option<i32>
     ensures { numeral_as result ≡ whole value }
 {
-    if reading::fits32(value) {
-        return Numeral::Value(sign::narrow32(value));
-    }
-    Numeral::None
+    i32::try_from(value).ok()
 }
 
 // A whole text as a number.
-fn text_number(t: &[u8]) -> Numeral
+fn text_number(t: &[u8]) -> Option<i32>
     ensures { numeral_as result ≡ line_number t.now }
 {
     if few_digits(t) {
-        let Leading::Number { value, next } = scalar::to_i64_t(t) else {
-            return Numeral::None;
-        };
-        if next < t.len() {
-            return Numeral::None;
+        let Leading { value, next } = scalar::to_i64_t(t)?;
+        if next == t.len() {
+            return whole32(value);
         }
-        return whole32(value);
     }
-    Numeral::None
+    None
 }
 
 // The number that stands from a place on, to the end.
-pub fn number(s: &[u8], from: usize) -> Numeral
+pub fn number(s: &[u8], from: usize) -> Option<i32>
     ensures { numeral_as result ≡ line_number (drop from s.now) }
 {
-    if s.len() <= from {
-        return Numeral::None;
-    }
-    text_number(&s[from..])
+    text_number(s.get(from..)?)
 }

@@ -41,7 +41,7 @@ pub length-told : {R : Type 0} (view : R → Answer ℕ) (long : R → ℕ) → 
     → (r : R) (n : ℕ) → view r ≡ Gives n → long r ≡ n
 length-told view long same r n e = sym (same r) ∙ ap (back_one (λ (x : ℕ). x) 0) e
 
-spelled-length : (r : Result ℕ Refusal) → back_one (λ (x : ℕ). x) 0 (spelled_as r) ≡ length_of r
+pub spelled-length : (r : Result ℕ Refusal) → back_one (λ (x : ℕ). x) 0 (spelled_as r) ≡ length_of r
 spelled-length (Ok n) = refl
 spelled-length (Err e) = none_given _ (refused ℕ e)
   where

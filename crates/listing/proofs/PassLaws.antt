@@ -8,18 +8,18 @@ use borrow.Rule.Slice.PartMut.{put_mid}
 use lib.ListN.{length, take, drop, length-append, length-drop, take-append-drop}
 use lib.Seq.{drop-drop, take_at, drop_at, length-take-le}
 use Rattle.spans.specs.Bytes.{slice, index_of}
-use Rattle.rules.specs.Refusals.{Gives}
+use Rattle.std.specs.Prelude.{Result, IsOk}
+use Rattle.rules.specs.Refusals.{Gives, given}
+use Rattle.refusals.specs.declared.Refusal.{Refusal}
+use Rattle.refusals.proofs.RefusalLaws.{is-ok}
 use Rattle.rules.specs.Spelling.{put_answer, put_buffer}
 use Rattle.rules.specs.Listing.{line_output, lines, joined}
 use Rattle.rules.proofs.Shared.Rests.{here, past, to_end}
 use Rattle.rules.proofs.OnListing.LineLaws.{end_of, lines-first}
-use Rattle.rules.proofs.OnRefusals.Determined.{back_one}
 use Rattle.rules.proofs.OnSpelling.WriteLaws.{tail-lent, tail-back}
-use Rattle.listing.specs.declared.Listed.{Listed}
-use Rattle.listing.specs.declared.Listed.TheVariants as L
 use Rattle.listing.specs.Answers.{listed_as, length_of}
 use Rattle.listing.specs.Views.{printed}
-use Rattle.formatter.proofs.Texts.{length-told}
+use Rattle.formatter.proofs.Texts.{length-told, spelled-length}
 
 -- ---- the first of the lines from a place on, which ends where the code finds byte 10
 
@@ -96,14 +96,15 @@ left-none l final at e left = sym (take-append-drop at l) ∙ (rw e at left.0)
 
 -- ---- a text that is written whole, since there is room
 
-pub record Whole (t l₀ : List ℕ) (r : Listed) (l : List ℕ) : Type 0 where
+pub record Whole (t l₀ : List ℕ) (r : Result ℕ Refusal) (l : List ℕ) : Type 0 where
+  pub is : IsOk r
   pub answered : length_of r ≡ length t
   pub holds : l ≡ t ++ drop (length t) l₀
 
-listed-length : (r : Listed) → back_one (λ (x : ℕ). x) 0 (listed_as r) ≡ length_of r
-listed-length r = elim r as (λ (r : Listed). back_one (λ (x : ℕ). x) 0 (listed_as r) ≡ length_of r) [ L.Length m ↦ refl | L.Short ↦ refl ]
-
-pub whole : (t l₀ : List ℕ) {l : List ℕ} (r : Listed) → length t ≤ length l₀
+pub whole : (t l₀ : List ℕ) {l : List ℕ} (r : Result ℕ Refusal) → length t ≤ length l₀
     → listed_as r ≡ put_answer (Gives t) l₀ → l ≡ put_buffer (Gives t) l₀ → Whole t l₀ r l
 unfolding put_answer put_buffer
-whole t l₀ r h a b = let test = le-leb _ _ h in record { answered = length-told listed_as length_of listed-length r _ (rw test at a); holds = rw test at b }
+whole t l₀ r h a b =
+    let test = le-leb _ _ h in
+    let told = rw test at a in
+    record { is = is-ok (λ n. n) r (ap given told); answered = length-told listed_as length_of spelled-length r _ told; holds = rw test at b }

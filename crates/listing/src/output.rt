@@ -8,7 +8,6 @@ ghost use Rattle.kinds.specs.Views.{kind_of, bits_of};
 ghost use Rattle.digits.specs.Places.{placed};
 ghost use Rattle.listing.specs.Views.{date_line};
 
-use formatter::Spelled;
 use kinds::{Kind, Packed};
 
 // The fixed word between the letter and the number of a refusal.
@@ -30,12 +29,7 @@ fn put_iso(out: &mut [u8], kind: Kind, date: Packed) -> usize
     ensures value { (result ≡ length (iso (kind_of kind) (unpacked (bits_of date)))) × (result ≤ 15) }
     ensures out_after { out.new ≡ placed (iso (kind_of kind) (unpacked (bits_of date))) out.old }
 {
-    let text = formatter::iso_8601(kind, date, out);
-    match text {
-        Spelled::Length(n) => n,
-        Spelled::NotOfKind => 0,
-        Spelled::Short => 0,
-    }
+    formatter::iso_8601(kind, date, out).unwrap()
 }
 
 // Letter, dotted text and ISO text of a date of the kind.

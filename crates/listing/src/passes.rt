@@ -4,8 +4,6 @@ ghost use Rattle.rules.specs.Listing.{line_output, input_limit};
 ghost use Rattle.digits.specs.Places.{placed};
 ghost use Rattle.listing.specs.Views.{printed};
 
-use crate::Listed;
-
 // How many bytes the lines of an input print.
 pub(crate) fn measure(s: &[u8]) -> usize
     requires { length s.now ≤ input_limit }
@@ -13,6 +11,7 @@ pub(crate) fn measure(s: &[u8]) -> usize
 {
     let mut room = [0u8; 40];
     let mut total = 0;
+    // Kept (point 3): `split` of the library gives a last empty line after a final byte 10, which `lines` of `rules` has not.
     let mut at = 0;
     while at < s.len() {
         let end = spans::find(s, at, s.len(), crate::LINE_END);
@@ -28,11 +27,7 @@ fn put_line(s: &[u8], out: &mut [u8]) -> usize
     ensures value { result ≡ length (line_output s.now) }
     ensures out_after { out.new ≡ placed (line_output s.now) out.old }
 {
-    let answer = crate::line(s, out);
-    match answer {
-        Listed::Length(n) => n,
-        Listed::Short => 0,
-    }
+    crate::line(s, out).unwrap()
 }
 
 // Whether a buffer of so many bytes has room for what the lines of an input print. One of 12 for each byte of the input always has, and
@@ -53,6 +48,7 @@ pub(crate) fn put_lines(s: &[u8], out: &mut [u8]) -> usize
     ensures value { result ≡ length (printed s.now) }
     ensures out_after { out.new ≡ placed (printed s.now) out.old }
 {
+    // Kept (point 3): as in `measure`.
     let mut from = 0;
     let mut filled = 0;
     while from < s.len() {

@@ -2,40 +2,28 @@
 ghost use Rattle.std.specs.Prelude.{◌≡◌};
 ghost use Rattle.rules.specs.Kinds.{store_like};
 ghost use Rattle.requests.specs.Hours.{add_count, add_hours, add_blocks, count_between, hours_between, blocks_between};
-ghost use Rattle.hour_count.specs.Views.{counted_as};
 ghost use Rattle.pennyquill.specs.Boundary.{date_in, of_date_given, of_dates_given, bits_crossed, number_crossed};
 
-use crate::{PqAnswer, PqNumber, crossing, days};
-use codes::Coded;
-use hour_count::Counted;
+use crate::{PqAnswer, PqNumber, crossing};
 
 // ---- over the hours of a block
 
 fn added(kind: u32, block: u64, date: u32, count: i32) -> PqAnswer
     ensures { result ≡ bits_crossed (store_like (date_in date) (of_date_given kind date (λ k f. add_count block k f count))) }
 {
-    let Coded::Kind(kind) = codes::kind_of_code(kind) else {
+    let Some(kind) = codes::kind_of_code(kind) else {
         return crossing::not_of_kind();
     };
-    days::sum_crossed(hour_count::add(kind, block, crossing::date_in(date), count))
-}
-
-fn count_crossed(counted: Counted) -> PqNumber
-    ensures { result ≡ number_crossed (counted_as counted) }
-{
-    match counted {
-        Counted::Count(n) => crossing::gives_number(n),
-        Counted::NotOfKind => crossing::no_number(),
-    }
+    crossing::dated(hour_count::add(kind, block, crossing::date_in(date), count))
 }
 
 fn between(kind: u32, block: u64, first: u32, second: u32) -> PqNumber
     ensures { result ≡ number_crossed (of_dates_given kind first second (λ k f g. count_between block k f g)) }
 {
-    let Coded::Kind(kind) = codes::kind_of_code(kind) else {
+    let Some(kind) = codes::kind_of_code(kind) else {
         return crossing::no_number();
     };
-    count_crossed(hour_count::until(
+    crossing::number_or_none(hour_count::until(
         kind,
         block,
         crossing::date_in(first),

@@ -7,7 +7,7 @@ ghost use Rattle.field_table.specs.Views.{in_bits};
 ghost use Rattle.pennyquill.specs.Boundary.{crossed};
 ghost use Rattle.pennyquill.specs.Tables.{entry_crossed, lookup_crossed};
 
-use crate::{PqAnswer, PqLookup, PqRecord, books, tables};
+use crate::{PqAnswer, PqLookup, PqRecord, books, crossing, tables};
 use league_table::moves;
 
 #[unsafe(no_mangle)]
@@ -15,14 +15,14 @@ pub extern "C" fn pq_leagues_new(table: &mut [u8]) -> PqAnswer
     ensures value { result ≡ crossed (new_answer table.old) }
     ensures table_after { table.new ≡ new_buffer table2.version table.old }
 {
-    books::start_crossed(league_table::new(table))
+    books::started(league_table::new(table))
 }
 
 #[unsafe(no_mangle)]
 pub extern "C" fn pq_leagues_check(table: &[u8], league: u32) -> PqAnswer
     ensures { result ≡ crossed (counted (own_entries table.now league)) }
 {
-    tables::count_crossed(league_table::check(table, league))
+    crossing::counted(league_table::check(table, league))
 }
 
 #[unsafe(no_mangle)]
@@ -35,7 +35,7 @@ pub extern "C" fn pq_leagues_declare(
     ensures value { result ≡ crossed (counted (own_of league (own_declaration table.old league field kind))) }
     ensures table_after { table.new ≡ own_declare_buffer table.old league field kind }
 {
-    tables::change_crossed(league_table::declare(table, league, field, kind))
+    crossing::counted(league_table::declare(table, league, field, kind))
 }
 
 #[unsafe(no_mangle)]
@@ -43,7 +43,7 @@ pub extern "C" fn pq_leagues_remove(table: &mut [u8], league: u32, field: u32) -
     ensures value { result ≡ crossed (counted (own_of league (own_removal table.old league field))) }
     ensures table_after { table.new ≡ own_remove_buffer table.old league field }
 {
-    tables::change_crossed(league_table::remove(table, league, field))
+    crossing::counted(league_table::remove(table, league, field))
 }
 
 #[unsafe(no_mangle)]
@@ -72,5 +72,5 @@ pub extern "C" fn pq_leagues_from_table(from: &[u8], to: &mut [u8]) -> PqAnswer
     ensures value { result ≡ crossed (counted (moved_entries from.now to.old)) }
     ensures to_after { to.new ≡ moved_buffer from.now to.old }
 {
-    tables::change_crossed(moves::from_table(from, to))
+    crossing::counted(moves::from_table(from, to))
 }

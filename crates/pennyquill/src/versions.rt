@@ -1,34 +1,14 @@
 // Books of version 2, books of either version, and the moves between the two.
-ghost use Rattle.std.specs.Prelude.{◌≡◌, ◌≤◌, length};
+ghost use Rattle.std.specs.Prelude.{◌≡◌, length};
 ghost use Rattle.rules.specs.Book.{check, entry_at, append_answer, append_buffer, new_answer, new_buffer};
 ghost use Rattle.requests.specs.Second.{version2, field_entry_for};
 ghost use Rattle.requests.specs.Both.{both};
 ghost use Rattle.requests.specs.Moves.{move_answer, move_buffer, upward, downward};
 ghost use Rattle.book_versions.specs.Walk.{walked, walked_over};
-ghost use Rattle.book_versions.specs.Recast.{moved_as};
-ghost use Rattle.pennyquill.specs.Boundary.{date_in, crossed, record_crossed, number_of};
+ghost use Rattle.pennyquill.specs.Boundary.{date_in, crossed, record_crossed};
 
 use crate::{PqAnswer, PqRecord, books, crossing};
-use book_versions::moves::Moved;
 use book_versions::{any, moves, second};
-use codes::Coded;
-
-// The greatest field number.
-const MOST_FIELD: u32 = 65535;
-
-fn move_crossed(moved: Moved) -> PqAnswer
-    requires { number_of (moved_as moved) ≤ 4096 }
-    ensures { result ≡ crossed (moved_as moved) }
-{
-    match moved {
-        Moved::Records(n) => crossing::gives(n as u32),
-        Moved::BadLength => crossing::refused(refusals::BAD_LENGTH),
-        Moved::BadVersion => crossing::refused(refusals::BAD_VERSION),
-        Moved::BadRecord(place) => books::refused_at(refusals::BAD_RECORD, place),
-        Moved::FieldOrMark(place) => books::refused_at(refusals::FIELD_OR_MARK, place),
-        Moved::NoRoom => crossing::refused(refusals::NO_ROOM),
-    }
-}
 
 // ---- version 2
 
@@ -37,14 +17,14 @@ pub extern "C" fn pq_book2_new(book: &mut [u8]) -> PqAnswer
     ensures value { result ≡ crossed (new_answer book.old) }
     ensures book_after { book.new ≡ new_buffer version2.frame.version book.old }
 {
-    books::start_crossed(second::new(book))
+    books::started(second::new(book))
 }
 
 #[unsafe(no_mangle)]
 pub extern "C" fn pq_book2_check(book: &[u8]) -> PqAnswer
     ensures { result ≡ crossed (check version2 book.now) }
 {
-    books::count_crossed(second::check(book))
+    crossing::counted(second::check(book))
 }
 
 // A field number that two bytes do not hold is refused as a kind that is none is.
@@ -53,14 +33,14 @@ pub extern "C" fn pq_book2_append(book: &mut [u8], kind: u32, field: u32, date: 
     ensures value { result ≡ crossed (append_answer version2 (field_entry_for kind field (date_in date)) book.old) }
     ensures book_after { book.new ≡ append_buffer version2 (field_entry_for kind field (date_in date)) book.old }
 {
-    let Coded::Kind(kind) = codes::kind_of_code(kind) else {
+    let Some(kind) = codes::kind_of_code(kind) else {
         return crossing::not_of_kind();
     };
-    if field <= MOST_FIELD {
-        let date = crossing::date_in(date);
-        return books::place_crossed(second::append(book, kind, field as u16, date));
-    }
-    crossing::not_of_kind()
+    let Ok(field) = u16::try_from(field) else {
+        return crossing::not_of_kind();
+    };
+    let date = crossing::date_in(date);
+    crossing::counted(second::append(book, kind, field, date))
 }
 
 #[unsafe(no_mangle)]
@@ -76,7 +56,7 @@ pub extern "C" fn pq_book2_record(book: &[u8], place: usize) -> PqRecord
 pub extern "C" fn pq_any_book_check(book: &[u8]) -> PqAnswer
     ensures { result ≡ crossed (check (both book.now) book.now) }
 {
-    books::count_crossed(any::check(book))
+    crossing::counted(any::check(book))
 }
 
 #[unsafe(no_mangle)]
@@ -92,7 +72,7 @@ pub extern "C" fn pq_any_book_records(book: &[u8], place: usize, out: &mut [u32]
     ensures value { result ≡ crossed (walked book.now place (length out.old)) }
     ensures out_after { out.new ≡ walked_over (walked book.now place (length out.old)) book.now place out.old }
 {
-    books::count_crossed(any::records(book, place, out))
+    crossing::counted(any::records(book, place, out))
 }
 
 // ---- the moves
@@ -102,7 +82,7 @@ pub extern "C" fn pq_book_to_2(from: &[u8], to: &mut [u8]) -> PqAnswer
     ensures value { result ≡ crossed (move_answer upward from.now to.old) }
     ensures to_after { to.new ≡ move_buffer upward from.now to.old }
 {
-    move_crossed(moves::to_2(from, to))
+    crossing::counted(moves::to_2(from, to))
 }
 
 #[unsafe(no_mangle)]
@@ -110,5 +90,5 @@ pub extern "C" fn pq_book_to_1(from: &[u8], to: &mut [u8]) -> PqAnswer
     ensures value { result ≡ crossed (move_answer downward from.now to.old) }
     ensures to_after { to.new ≡ move_buffer downward from.now to.old }
 {
-    move_crossed(moves::to_1(from, to))
+    crossing::counted(moves::to_1(from, to))
 }

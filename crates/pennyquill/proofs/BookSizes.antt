@@ -12,7 +12,7 @@ use lib.ListN.{length, get_or, length-map}
 use Rattle.rules.specs.Words.{within}
 use Rattle.rules.specs.Refusals.{Answer, Gives, Refused, RefusedAt, ◌then◌, demand, bad_record}
 use Rattle.rules.specs.Kinds.{Fields, Stored, of_kind, mark_of, no_mark, handed}
-use Rattle.rules.specs.Book.{Frame, Format, sound_by, length_size, head_size, length_limit, length_said, version_of, pieces_at, framed, first_bad, all_pass, records, check, pick, record_at, entry_at, place_after, append_answer, kind_of_code, unmarked_date, entry_from, entry_of, entry_for, version1}
+use Rattle.rules.specs.Book.{new_answer, Frame, Format, sound_by, length_size, head_size, length_limit, length_said, version_of, pieces_at, framed, first_bad, all_pass, records, check, pick, record_at, entry_at, place_after, append_answer, kind_of_code, unmarked_date, entry_from, entry_of, entry_for, version1}
 use Rattle.rules.proofs.OnBook.FrameLaws.{Sensible, found_framed}
 use Rattle.rules.proofs.OnBook.EntryLaws.{version1-sensible}
 use Rattle.requests.specs.Second.{FieldEntry, most_field, stored_from, date_in, field_entry_of, field_entry_for, version2}
@@ -38,7 +38,7 @@ pass-small n test rs few = inner (ltb (first_bad test rs) (length rs)) refl
     inner true p = let h = ltb-true (first_bad test rs) (length rs) p in omega arith
     inner false p = few
 
-pick_small : (rs : List (List ℕ)) (place : ℕ) → Small Any (pick rs place)
+pub pick_small : (rs : List (List ℕ)) (place : ℕ) → Small Any (pick rs place)
 unfolding pick
 pick_small [] place = tt
 pick_small (r ∷ rs) zero = tt
@@ -47,7 +47,7 @@ pick_small (r ∷ rs) (suc place) = pick_small rs place
 -- ---- over the frame
 
 module _ (frame : Frame) (s : List ℕ) where
-  framed-any : Small Any (framed frame s)
+  pub framed-any : Small Any (framed frame s)
   unfolding framed
   framed-any =
       let next = small-demand {A = List (List ℕ)} Any in
@@ -64,6 +64,11 @@ module _ (frame : Frame) (s : List ℕ) where
       by (Gives rs) e p = let m = (found_framed frame sensible s rs e).most in omega arith
       by (Refused n) e p = tt
       by (RefusedAt n place) e p = p
+
+-- a new one
+pub new-small : (s : List ℕ) → number_of (new_answer s) ≤ 4096
+unfolding new_answer
+new-small s = small-number (new_answer s) (small-demand Few (leb head_size (length s)) _ _ (λ fits. omega arith))
 
 -- ---- over the format: no refusal of a record has a place
 

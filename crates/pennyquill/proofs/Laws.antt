@@ -9,7 +9,8 @@ use Rattle.rules.specs.Book.{kind_code, kind_of_code, twos_complement, entry_for
 use Rattle.rules.proofs.OnKinds.KindLaws.{fit}
 use Rattle.rules.proofs.OnKinds.PackLaws.{marked-back, word_fits}
 use Rattle.rules.proofs.OnBook.EntryLaws.{code-back, twos_fit, year-back}
-use Rattle.codes.specs.declared.Coded.{Coded}
+use Rattle.std.specs.Prelude.{Option}
+use Rattle.kinds.specs.declared.Kind.{Kind as CodeKind}
 use Rattle.requests.specs.Second.{field_entry_for}
 use Rattle.codes.specs.Views.{coded_as, date_number}
 use Rattle.pennyquill.specs.Boundary.{date_in}
@@ -17,7 +18,7 @@ use Rattle.pennyquill.specs.Boundary.{date_in}
 -- ---- a kind by its code
 
 -- what the code's view says of the answer that it is matched with
-pub by_code : {x : Answer Kind} {r v : Coded} → coded_as r ≡ x → r ≡ v → x ≡ coded_as v
+pub by_code : {x : Answer Kind} {r v : Option CodeKind} → coded_as r ≡ x → r ≡ v → x ≡ coded_as v
 by_code e told = sym e ∙ ap coded_as told
 
 -- the record of a date is by the kind

@@ -46,6 +46,13 @@ small-within most h (Gives n) p = p
 small-within most h (Refused n) p = zero-le
 small-within most h (RefusedAt n place) p = omega arith
 
+-- 32 bits hold it
+pub fits-32 : {n : ℕ} → n ≤ 786420 → n ≤ 4294967295
+fits-32 h = omega arith
+
+pub small-fits : {n : ℕ} → n ≤ 4096 → n ≤ 4294967295
+small-fits h = omega arith
+
 pub small-number : (x : Answer ℕ) → Small Few x → number_of x ≤ 4096
 small-number x p = small-within 4096 (omega arith) x p
 
@@ -61,7 +68,7 @@ handed-small k d =
     small-demand (λ f. of_kind k f ≡ true) (mark_allowed (mark_of d.word)) _ _
     (λ low. small-demand (λ f. of_kind k f ≡ true) (of_kind k (unpacked d)) _ _ (λ p. p))
 
-small-outcome : {A : Type 0} {R : ℕ → Type 0} {P : A → Type 0} {x : Answer A} → Outcome R P x → Small Any x
+pub small-outcome : {A : Type 0} {R : ℕ → Type 0} {P : A → Type 0} {x : Answer A} → Outcome R P x → Small Any x
 small-outcome (gives p) = tt
 small-outcome (refuses r) = tt
 

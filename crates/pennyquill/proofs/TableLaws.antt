@@ -1,6 +1,6 @@
 -- A field table across the boundary: how large the counts are, and how many lookups one call answers. Assumes nothing.
 use mathlib.Core.Path.{◌≡◌, refl, sym, ap, ◌∙◌}
-use mathlib.Core.Bool.{true, false, cond}
+use mathlib.Core.Bool.{Bool, true, false, cond}
 use mathlib.Core.List.{List, [], ◌∷◌, ◌++◌, append_assoc}
 use Prim.Native.Nat.{ℕ, zero, suc, ◌+◌, ◌*◌, ◌/◌, ◌≤◌, ◌<◌}
 use native.Mathlib.Numerals.{add-one}
@@ -10,23 +10,36 @@ use lib.Dec.{leb, lit<}
 use lib.IntN.{ℤ}
 use lib.ListN.{length, take, drop, set, length-append, length-drop}
 use lib.Seq.{sets, sets-eq, take_at, drop-append-add, drop-drop}
-use Rattle.rules.specs.Refusals.{Answer, Gives, Refused, ◌then◌}
-use Rattle.rules.specs.Kinds.{Kind}
+use Rattle.rules.specs.Refusals.{Answer, Gives, Refused, RefusedAt, ◌then◌, demand}
+use Rattle.rules.specs.Kinds.{Kind, kind_by}
+use Rattle.rules.specs.Numbers.{reads_numbers}
+use Rattle.rules.specs.Book.{framed, pick, kind_code}
+use Rattle.rules.proofs.OnKinds.CodeLaws.{outcome-kind}
 use Rattle.rules.proofs.OnBook.FrameLaws.{Sensible, then-met}
-use Rattle.requests.specs.FieldTable.{table_frame, table1, bad_entry, game_kind, entries, counted, check, declared, removed}
+use Rattle.requests.specs.FieldTable.{TableFormat, table_frame, table1, is_key, bad_entry, kind_among, declared_kind, game_kind, declaring, declared_by, entry_for, entries, counted, check, entry_at, declare_in, remove_in, declared, removed}
 use Rattle.requests.proofs.OnFieldTable.HeldLaws.{sensible-table, found-holds}
 use Rattle.requests.specs.Fours.{least}
 use Rattle.requests.proofs.OnFours.FourLaws.{least_first, least-second}
 use Rattle.requests.proofs.OnFieldTable.AfterLaws.{after-declare, after-remove}
-use Rattle.field_table.specs.declared.Checked.{Checked}
-use Rattle.field_table.specs.declared.Checked.TheVariants as C
-use Rattle.field_table.specs.declared.Changed.{Changed}
-use Rattle.field_table.specs.declared.Changed.TheVariants as G
-use Rattle.field_table.specs.Views.{checked_as, changed_as}
-use Rattle.pennyquill.specs.Boundary.{number_of}
+use Rattle.pennyquill.specs.Boundary.{number_of, place_of}
+use Rattle.pennyquill.proofs.Sizes.{Small, Any, small-then, small-demand, small-place, small-outcome}
+use Rattle.pennyquill.proofs.BookSizes.{framed-any, pick_small}
 use Rattle.pennyquill.specs.Tables.{asked, lookups}
 
 -- ---- counts
+
+-- a refusal has no place
+pub record Plain {A : Type 0} (x : Answer A) : Type 0 where
+  pub is : Small Any x
+
+pub plain-then : {A B : Type 0} {x : Answer A} {next : A → Answer B} → Plain x → ((a : A) → Plain (next a)) → Plain (x then next)
+plain-then {x = x} {next = next} p q = record { is = small-then Any Any x next p.is (λ a any. (q a).is) }
+
+pub plain-demand : {A : Type 0} (t : Bool) (n : ℕ) {x : Answer A} → Plain x → Plain (demand t n x)
+plain-demand t n {x = x} p = record { is = small-demand Any t n x (λ e. p.is) }
+
+pub plain-gives : {A : Type 0} (a : A) → Plain (Gives a)
+plain-gives a = record { is = tt }
 
 sensible : Sensible (table_frame table1)
 sensible = sensible-table table1 (lit< tt)
@@ -34,39 +47,66 @@ sensible = sensible-table table1 (lit< tt)
 few : (t : List ℕ) (rs : List (List ℕ)) → entries table1 t ≡ Gives rs → length rs ≤ 4096
 few t rs e = let m = (found-holds table1 sensible t rs e).framed.most in omega arith
 
--- of entries that are never many, whatever table they come from
-module _ (x : Answer (List (List ℕ))) (most : (rs : List (List ℕ)) → x ≡ Gives rs → length rs ≤ 4096) where
-  counted-few : (n : ℕ) → Gives n ≡ counted x → n ≤ 4096
-  unfolding counted
-  counted-few n e =
-      let g = then-met x (λ rs. Gives (length rs)) n (sym e) in
-      let m = most g.value g.is in
-      let z : length g.value ≡ n = cc g.next in omega arith
+-- of entries that are never many, and whose refusal has no place, whatever table they come from
+pub counted-by : (x : Answer (List (List ℕ))) → Plain x → ((rs : List (List ℕ)) → x ≡ Gives rs → length rs ≤ 4096) → number_of (counted x) ≤ 4096
+unfolding counted
+counted-by (Gives rs) plain most = most rs refl
+counted-by (Refused n) plain most = omega arith
+counted-by (RefusedAt n place) plain most = plain.is
 
-  pub checked-by : (r : Checked) → checked_as r ≡ counted x → number_of (checked_as r) ≤ 4096
-  checked-by (C.Entries n) e = omega (arith, counted-few n e)
-  checked-by C.BadLength e = omega arith
-  checked-by C.BadVersion e = omega arith
-  checked-by C.BadEntry e = omega arith
+pub entries-plain : (table : TableFormat) (s : List ℕ) → Plain (entries table s)
+unfolding entries
+entries-plain table s = plain-then (record { is = framed-any (table_frame table) s }) (λ rs. plain-demand _ _ (plain-gives rs))
 
-  pub changed-by : (r : Changed) → changed_as r ≡ counted x → number_of (changed_as r) ≤ 4096
-  changed-by (G.Entries n) e = omega (arith, counted-few n e)
-  changed-by G.BadLength e = omega arith
-  changed-by G.BadVersion e = omega arith
-  changed-by G.BadEntry e = omega arith
-  changed-by G.Full e = omega arith
-  changed-by G.NotThere e = omega arith
+kind-plain : (allowed : Kind → Bool) (code : ℕ) → Plain (kind_among allowed code)
+unfolding kind_among
+kind-plain allowed code =
+    plain-then (record { is = small-outcome (outcome-kind kind_code bad_entry code {R = λ n. Unit {0}} tt) }) (λ k. plain-demand _ _ (plain-gives k))
 
-pub checked-small : (s : List ℕ) (r : Checked) → checked_as r ≡ check table1 s → number_of (checked_as r) ≤ 4096
-checked-small s r e = checked-by (entries table1 s) (few s) r e
+declaring-plain : (key_size key code : ℕ) → Plain (declaring key_size key code)
+unfolding declaring
+declaring-plain key_size key code = plain-demand _ _ (plain-then (kind-plain reads_numbers code) (λ k. plain-gives _))
 
-pub declared-small : (s : List ℕ) (field code : ℕ) (r : Changed) → changed_as r ≡ counted (declared table1 s field code) → number_of (changed_as r) ≤ 4096
-declared-small s field code r e =
-    changed-by (declared table1 s field code) (λ rs d. few _ rs (after-declare table1 sensible s field code rs d)) r e
+pub entry-plain : (key_size key code : ℕ) → Plain (entry_for key_size key code)
+unfolding entry_for
+entry-plain key_size key code = plain-then (declaring-plain key_size key code) (λ d. plain-gives _)
 
-pub removed-small : (s : List ℕ) (field : ℕ) (r : Changed) → changed_as r ≡ counted (removed table1 s field) → number_of (changed_as r) ≤ 4096
-removed-small s field r e =
-    changed-by (removed table1 s field) (λ rs d. few _ rs (after-remove table1 sensible s field rs d)) r e
+pub declare-plain : (table : TableFormat) (s : List ℕ) (rs : List (List ℕ)) (r : List ℕ) → Plain (declare_in table s rs r)
+unfolding declare_in
+declare-plain table s rs r = plain-demand _ _ (plain-gives _)
+
+pub remove-plain : (key_size key : ℕ) (rs : List (List ℕ)) → Plain (remove_in key_size key rs)
+unfolding remove_in
+remove-plain key_size key rs = plain-demand _ _ (plain-gives _)
+
+declared-plain : (s : List ℕ) (field code : ℕ) → Plain (declared table1 s field code)
+unfolding declared
+declared-plain s field code =
+    plain-then (entries-plain table1 s) (λ rs. plain-then (entry-plain 2 field code) (λ r. declare-plain table1 s rs r))
+
+removed-plain : (s : List ℕ) (field : ℕ) → Plain (removed table1 s field)
+unfolding removed
+removed-plain s field = plain-then (entries-plain table1 s) (λ rs. plain-demand _ _ (remove-plain 2 field rs))
+
+pub checked-small : (s : List ℕ) → number_of (check table1 s) ≤ 4096
+checked-small s = counted-by (entries table1 s) (entries-plain table1 s) (few s)
+
+pub declared-small : (s : List ℕ) (field code : ℕ) → number_of (counted (declared table1 s field code)) ≤ 4096
+declared-small s field code =
+    counted-by (declared table1 s field code) (declared-plain s field code) (λ rs d. few _ rs (after-declare table1 sensible s field code rs d))
+
+pub removed-small : (s : List ℕ) (field : ℕ) → number_of (counted (removed table1 s field)) ≤ 4096
+removed-small s field =
+    counted-by (removed table1 s field) (removed-plain s field) (λ rs d. few _ rs (after-remove table1 sensible s field rs d))
+
+-- what an entry declares has no place either
+pub picked-plain : (key_size : ℕ) (rs : List (List ℕ)) (place : ℕ) → Plain (pick rs place then declared_by key_size)
+unfolding declared_by
+picked-plain key_size rs place = plain-then (record { is = pick_small rs place }) (λ r. declaring-plain key_size _ _)
+
+pub entry-small : (s : List ℕ) (place : ℕ) → place_of (entry_at table1 s place) ≤ 4096
+unfolding entry_at
+entry-small s place = small-place (entry_at table1 s place) (plain-then (entries-plain table1 s) (λ rs. picked-plain 2 rs place)).is
 
 -- ---- the whole call
 

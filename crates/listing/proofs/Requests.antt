@@ -14,7 +14,13 @@ use Rattle.rules.proofs.OnKinds.PackLaws.{unpack-pack, marked-back}
 use Rattle.rules.proofs.OnRefusals.Determined.{back_one, back_by}
 use Rattle.rules.proofs.OnRefusals.OutcomeLaws.{Outcome, gives, refuses, Dated}
 use Rattle.rules.proofs.OnListing.RefusalLaws.{RefusedBy, date-outcome, has-way}
+use Rattle.std.proofs.Common.{rules, ◌∙◌}
+use Rattle.refusals.specs.declared.Refusal.{Refusal}
+use Rattle.refusals.specs.Numbers.{number_of}
+use Rattle.refusals.specs.Answers.{refusal_as}
+use Rattle.refusals.proofs.RefusalLaws.{refused}
 use Rattle.request.specs.Views.{mark_by}
+use Rattle.request.proofs.Answers.{number-told}
 use Rattle.listing.specs.Views.{date_line}
 
 -- a line that is not read
@@ -70,3 +76,14 @@ module _ (s : List ℕ) (k : Kind) (w : Way) (line : read_line s ≡ Gives (reco
 
   pub refusal-output : (n : ℕ) → Refused n ≡ store_with (mark_by w) (date_by w k (drop 4 s)) → line_output s ≡ refused_text (letter k) n ++ line_end
   refusal-output n q = by-refusal (date_by w k (drop 4 s)) n told refl q
+
+  -- the same of the code's refusal, by its number
+  by-error : (a : Answer Fields) (e : Refusal) → Outcome (RefusedBy w) (Dated k) a → date_by w k (drop 4 s) ≡ a → refusal_as e ≡ store_with (mark_by w) a → line_output s ≡ refused_text (letter k) (number_of e) ++ line_end
+  unfolding date_text
+  by-error (Gives f) e o p q = search (rules, sym (refused Stored e) ∙ ap given q)
+  by-error (Refused m) e o p q =
+      let same : number_of e ≡ m = sym (number-told e) ∙ ap (back_by (λ (x : Stored). 0) (λ i. i)) q in rw same (answered (Refused m) p)
+  by-error (RefusedAt m i) e o p q = elim o [ ]
+
+  pub error-output : (e : Refusal) → refusal_as e ≡ store_with (mark_by w) (date_by w k (drop 4 s)) → line_output s ≡ refused_text (letter k) (number_of e) ++ line_end
+  error-output e q = by-error (date_by w k (drop 4 s)) e told refl q

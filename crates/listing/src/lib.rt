@@ -10,7 +10,6 @@ ghost use Rattle.digits.specs.Places.{placed};
 ghost use Rattle.listing.specs.Answers.{listed_as, length_of};
 
 use refusals::{Refusal, UNREADABLE_LINE};
-use request::Request;
 
 mod output;
 mod passes;
@@ -31,12 +30,12 @@ fn build(s: &[u8], out: &mut [u8]) -> usize
     ensures value { (result ≡ length (line_output s.now)) × (result ≤ 40) }
     ensures out_after { out.new ≡ placed (line_output s.now) out.old }
 {
-    let Some(Request { kind, way }) = request::read_line(s) else {
+    let Some(asked) = request::read_line(s) else {
         return output::put_refused(out, b'?', UNREADABLE_LINE);
     };
-    match request::date_by(kind, way, s) {
-        Ok(date) => output::put_date(out, kind, date),
-        Err(refusal) => output::put_refused(out, codes::letter(kind), u8::from(refusal)),
+    match request::date_by(asked.kind, asked.way, s) {
+        Ok(date) => output::put_date(out, asked.kind, date),
+        Err(refusal) => output::put_refused(out, codes::letter(asked.kind), u8::from(refusal)),
     }
 }
 

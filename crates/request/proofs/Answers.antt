@@ -16,7 +16,7 @@ use Rattle.kinds.specs.declared.Packed.{Packed}
 use Rattle.request.specs.Views.{mark_by, asked_as, refusal_in}
 
 -- the number in the answer that a refusal is
-number-told : (e : Refusal) → back_by {A = Stored} (λ a. 0) (λ n. n) (refusal_as e) ≡ number_of e
+pub number-told : (e : Refusal) → back_by {A = Stored} (λ a. 0) (λ n. n) (refusal_as e) ≡ number_of e
 number-told R.TooLong = refl
 number-told R.NotText = refl
 number-told R.NotNumber = refl

@@ -7,10 +7,16 @@ use native.Mathlib.Omega.{arith}
 use lib.Dec.{leb}
 use lib.ListN.{length}
 use Rattle.rules.specs.Refusals.{Answer, Gives, Refused, RefusedAt, ◌then◌, demand, not_of_kind}
-use Rattle.rules.specs.Kinds.{Kind, Fields, Stored, of_kind, made, mark_of, mark_allowed, unpacked, handed, of_date}
+use lib.IntN.{ℤ}
+use Rattle.rules.specs.Kinds.{Kind, Fields, Stored, of_kind, made, mark_of, mark_allowed, unpacked, handed, of_date, store, store_like}
+use Rattle.rules.specs.Days.{add_days, summed}
+use Rattle.rules.specs.Text.{read_text}
+use Rattle.requests.specs.IsoReader.{read_iso}
+use Rattle.requests.specs.Hours.{add_count, hour_summed}
+use Rattle.requests.proofs.OnIsoReader.NamedLaws.{outcome-named}
 use Rattle.rules.specs.Spelling.{dotted, iso, has_iso_date, iso_date_alone, exchange, put_answer}
 use Rattle.rules.specs.Book.{kind_code, kind_of_code}
-use Rattle.rules.proofs.OnRefusals.OutcomeLaws.{Outcome, gives, refuses}
+use Rattle.rules.proofs.OnRefusals.OutcomeLaws.{Outcome, gives, refuses, outcome-text}
 use Rattle.rules.proofs.OnKinds.CodeLaws.{outcome-kind}
 use Rattle.rules.proofs.OnSpelling.LengthLaws.{text-lengths}
 use Rattle.pennyquill.specs.Boundary.{number_of, place_of}
@@ -75,6 +81,54 @@ small-outcome (refuses r) = tt
 pub code-small : (code : ℕ) → Small Any (kind_of_code code)
 unfolding kind_of_code
 code-small code = small-outcome (outcome-kind kind_code not_of_kind code {R = λ n. Unit {0}} tt)
+
+-- a refusal has no place
+pub record Plain {A : Type 0} (x : Answer A) : Type 0 where
+  pub is : Small Any x
+
+pub plain-then : {A B : Type 0} {x : Answer A} {next : A → Answer B} → Plain x → ((a : A) → Plain (next a)) → Plain (x then next)
+plain-then {x = x} {next = next} p q = record { is = small-then Any Any x next p.is (λ a any. (q a).is) }
+
+pub plain-demand : {A : Type 0} (t : Bool) (n : ℕ) {x : Answer A} → Plain x → Plain (demand t n x)
+plain-demand t n {x = x} p = record { is = small-demand Any t n x (λ e. p.is) }
+
+pub plain-gives : {A : Type 0} (a : A) → Plain (Gives a)
+plain-gives a = record { is = tt }
+
+-- ---- a date that is read, or that a sum gives
+
+stored-place : (x : Answer Fields) (next : Fields → Answer Stored) → Plain x → ((f : Fields) → Plain (next f)) → place_of (x then next) ≤ 4096
+stored-place x next p q = small-place (x then next) (plain-then p q).is
+
+module _ (k : Kind) (s : List ℕ) where
+  pub text-place : place_of (store (read_text k s)) ≤ 4096
+  text-place = stored-place (read_text k s) _ (record { is = small-outcome (outcome-text {R = λ n. Unit {0}} tt tt k s) }) (λ f. plain-gives _)
+
+  iso-plain : Plain (read_iso k s)
+  unfolding read_iso
+  iso-plain = plain-demand _ _ (record { is = small-outcome (outcome-named {R = λ n. Unit {0}} tt k s) })
+
+  pub iso-place : place_of (store (read_iso k s)) ≤ 4096
+  iso-place = stored-place (read_iso k s) _ iso-plain (λ f. plain-gives _)
+
+handed-plain : (k : Kind) (d : Stored) → Plain (handed k d)
+unfolding handed made
+handed-plain k d = plain-demand (mark_allowed (mark_of d.word)) not_of_kind (plain-demand (of_kind k (unpacked d)) not_of_kind (plain-gives (unpacked d)))
+
+summed-plain : (k : Kind) (days : ℤ) (f : Fields) → Plain (add_days k f days)
+unfolding add_days summed
+summed-plain k days f = search (plain-demand, plain-gives)
+
+pub sum-place : (k : Kind) (d : Stored) (days : ℤ) → place_of (store_like d (of_date k d (λ f. add_days k f days))) ≤ 4096
+sum-place k d days = stored-place (of_date k d (λ f. add_days k f days)) _ (plain-then (handed-plain k d) (summed-plain k days)) (λ f. plain-gives _)
+
+counted-plain : (block : ℕ) (k : Kind) (count : ℤ) (f : Fields) → Plain (add_count block k f count)
+unfolding add_count hour_summed
+counted-plain block k count f = search (plain-demand, plain-gives)
+
+pub count-place : (k : Kind) (block : ℕ) (d : Stored) (count : ℤ) → place_of (store_like d (of_date k d (λ f. add_count block k f count))) ≤ 4096
+count-place k block d count =
+    stored-place (of_date k d (λ f. add_count block k f count)) _ (plain-then (handed-plain k d) (counted-plain block k count)) (λ f. plain-gives _)
 
 -- ---- the length of a text
 

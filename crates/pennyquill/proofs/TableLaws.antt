@@ -10,9 +10,10 @@ use lib.Dec.{leb, lit<}
 use lib.IntN.{ℤ}
 use lib.ListN.{length, take, drop, set, length-append, length-drop}
 use lib.Seq.{sets, sets-eq, take_at, drop-append-add, drop-drop}
-use Rattle.rules.specs.Refusals.{Answer, Gives, Refused, RefusedAt, ◌then◌, demand}
+use Rattle.std.proofs.Common.{rules}
+use Rattle.rules.specs.Refusals.{Answer, Gives, Refused, RefusedAt, ◌then◌, given}
 use Rattle.rules.specs.Kinds.{Kind, kind_by}
-use Rattle.rules.specs.Numbers.{reads_numbers}
+use Rattle.rules.specs.Numbers.{reads_numbers, guesses}
 use Rattle.rules.specs.Book.{framed, pick, kind_code}
 use Rattle.rules.proofs.OnKinds.CodeLaws.{outcome-kind}
 use Rattle.rules.proofs.OnBook.FrameLaws.{Sensible, then-met}
@@ -22,24 +23,11 @@ use Rattle.requests.specs.Fours.{least}
 use Rattle.requests.proofs.OnFours.FourLaws.{least_first, least-second}
 use Rattle.requests.proofs.OnFieldTable.AfterLaws.{after-declare, after-remove}
 use Rattle.pennyquill.specs.Boundary.{number_of, place_of}
-use Rattle.pennyquill.proofs.Sizes.{Small, Any, small-then, small-demand, small-place, small-outcome}
+use Rattle.pennyquill.proofs.Sizes.{Any, Plain, small-then, small-within, plain-then, plain-demand, plain-gives, small-place, small-outcome}
 use Rattle.pennyquill.proofs.BookSizes.{framed-any, pick_small}
-use Rattle.pennyquill.specs.Tables.{asked, lookups}
+use Rattle.pennyquill.specs.Tables.{asked, lookups, answered}
 
 -- ---- counts
-
--- a refusal has no place
-pub record Plain {A : Type 0} (x : Answer A) : Type 0 where
-  pub is : Small Any x
-
-pub plain-then : {A B : Type 0} {x : Answer A} {next : A → Answer B} → Plain x → ((a : A) → Plain (next a)) → Plain (x then next)
-plain-then {x = x} {next = next} p q = record { is = small-then Any Any x next p.is (λ a any. (q a).is) }
-
-pub plain-demand : {A : Type 0} (t : Bool) (n : ℕ) {x : Answer A} → Plain x → Plain (demand t n x)
-plain-demand t n {x = x} p = record { is = small-demand Any t n x (λ e. p.is) }
-
-pub plain-gives : {A : Type 0} (a : A) → Plain (Gives a)
-plain-gives a = record { is = tt }
 
 sensible : Sensible (table_frame table1)
 sensible = sensible-table table1 (lit< tt)
@@ -123,6 +111,12 @@ module _ (s : List ℕ) (game : ℕ) (fields : List ℕ) (numbers : List ℤ) (o
   unfolding lookups
   no_table e = rw (← e)
 
+  -- at a refusal nothing is written
+  pub unanswered : (x : Answer ℕ) → given x ≡ false → answered x s game fields numbers out ≡ out
+  unanswered (Gives n) e = search (rules, e)
+  unanswered (Refused m) e = refl
+  unanswered (RefusedAt m place) e = refl
+
 -- there are so many fields, numbers and fours
 pub record Enough (n fields numbers out : ℕ) : Type 0 where
   pub in-fields : n ≤ fields
@@ -137,3 +131,18 @@ enough a b c =
     let f = least_first a b in let g = least-second a b in
     let h = least_first (c / 4) 4294967295 in let i = least-second (c / 4) 4294967295 in
     record { in-fields = omega arith; in-numbers = omega arith; in-out = omega arith; counts = omega arith }
+
+check-plain : (s : List ℕ) → Plain (check table1 s)
+unfolding counted
+check-plain s = plain-then (entries-plain table1 s) (λ rs. plain-gives _)
+
+abbrev Held : ℕ → Type 0
+Held n = n ≤ 4294967295
+
+pub lookups-small : (s : List ℕ) (game : ℕ) (fields : List ℕ) (numbers : List ℤ) (out : List ℕ) → number_of (lookups s game fields numbers out) ≤ 4294967295
+unfolding lookups
+lookups-small s game fields numbers out =
+    small-within 4294967295 (omega arith) (lookups s game fields numbers out)
+    (small-then Any Held (check table1 s) _ (check-plain s).is
+    (λ n any. small-then Any Held (game_kind game) _ (kind-plain guesses game).is
+    (λ k any. (enough (length fields) (length numbers) (length out)).counts)))

@@ -1,0 +1,7 @@
+-- `pennyquill::tables::pq_table_entry` meets its contract: its number fits 32 bits. Assumes nothing.
+use Rattle.pennyquill.proofs.Sizes.{small-fits}
+use Rattle.pennyquill.proofs.TableLaws.{entry-small}
+use Rattle.pennyquill.proofs.tables.pq_table_entry.Goals as goal
+
+pub entry_crossed-requires : goal.entry_crossed-requires
+entry_crossed-requires c = small-fits (rw c.entry_at.ensures (entry-small _ _))

@@ -1,15 +1,20 @@
 -- What the report and its figures answer, by what the check of the book says. Assumes nothing.
-use mathlib.Core.Path.{◌≡◌, refl, ap}
+use mathlib.Core.Path.{◌≡◌, refl, sym}
+use mathlib.Core.Bool.{false}
 use mathlib.Core.List.{List, ◌++◌}
 use Prim.Native.Nat.{ℕ, ◌≤◌, ◌<◌}
 use borrow.Author.Tests.{le-leb, lt-leb}
 use lib.IntN.{ℤ}
 use lib.ListN.{length, drop, length-append}
-use Rattle.rules.specs.Refusals.{Answer, Gives, Refused, RefusedAt, ◌then◌, buffer_short}
+use Rattle.rules.specs.Refusals.{Answer, Gives, Refused, RefusedAt, ◌then◌, given, buffer_short}
 use Rattle.rules.specs.Kinds.{Kind, kR, kD, kH, kU, kE, kV}
 use Rattle.rules.specs.Spelling.{put_answer, put_buffer}
 use Rattle.rules.specs.Book.{Format, records, check}
 use Rattle.rules.proofs.OnBook.FrameLaws.{then-met}
+use Rattle.refusals.specs.declared.Refusal.{Refusal}
+use Rattle.refusals.specs.Answers.{refusal_as}
+use Rattle.refusals.proofs.RefusalLaws.{refused, refusal-then}
+use Rattle.frame.proofs.Refusing.{refused-before}
 use Rattle.requests.specs.Second.{FieldEntry}
 use Rattle.requests.specs.Both.{both}
 use Rattle.requests.specs.Gaps.{placed_from}
@@ -43,6 +48,20 @@ module _ (s : List ℕ) where
   unfolding check figures
   figures-bad n place e = bad-too (records (both s) s) length (figures_of (both s)) n place e
 
+  -- by the refusal that the code has
+  module _ (e : Refusal) (h : check (both s) s ≡ refusal_as e) where
+    none-told : records (both s) s ≡ refusal_as e
+    unfolding check
+    none-told = refused-before e (records (both s) s) length h
+
+    pub report-refusing : report s ≡ refusal_as e
+    unfolding report
+    report-refusing = rw none-told (refusal-then e _)
+
+    pub figures-refusing : figures s ≡ refusal_as e
+    unfolding figures
+    figures-refusing = rw none-told (refusal-then e _)
+
 -- ---- a refusal, and the buffer stays
 
 module _ (a : Answer (List ℕ)) (out : List ℕ) where
@@ -53,6 +72,15 @@ module _ (a : Answer (List ℕ)) (out : List ℕ) where
   pub text-bad : (n place : ℕ) → a ≡ RefusedAt n place → (RefusedAt n place ≡ put_answer a out) × (out ≡ put_buffer a out)
   unfolding put_answer put_buffer
   text-bad n place e = rw e (refl, refl)
+
+  pub text-refusing : (e : Refusal) → a ≡ refusal_as e → (refusal_as e ≡ put_answer a out) × (out ≡ put_buffer a out)
+  unfolding put_answer put_buffer
+  text-refusing e h = rw h (sym (refusal-then e _), by (refusal_as e) (refused _ e))
+    where
+      by : (x : Answer (List ℕ)) → given x ≡ false → out ≡ put_buffer x out
+      by (Gives t) g = cc
+      by (Refused n) g = refl
+      by (RefusedAt n place) g = refl
 
 module _ (a : Answer (List ℤ)) (out : List ℤ) where
   abbrev Answered : Answer ℕ → List ℤ → Type 0
@@ -65,6 +93,15 @@ module _ (a : Answer (List ℤ)) (out : List ℤ) where
   pub numbers-bad : (n place : ℕ) → a ≡ RefusedAt n place → Answered (RefusedAt n place) out
   unfolding figures_answer figures_over
   numbers-bad n place e = rw e (refl, refl)
+
+  pub numbers-refusing : (e : Refusal) → a ≡ refusal_as e → Answered (refusal_as e) out
+  unfolding figures_answer figures_over
+  numbers-refusing e h = rw h (sym (refusal-then e _), by (refusal_as e) (refused _ e))
+    where
+      by : (x : Answer (List ℤ)) → given x ≡ false → out ≡ figures_over x out
+      by (Gives ns) g = cc
+      by (Refused n) g = refl
+      by (RefusedAt n place) g = refl
 
   -- ---- the figures, of which there are 36
 

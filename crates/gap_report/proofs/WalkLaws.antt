@@ -1,5 +1,5 @@
 -- The walk for a kind: what the code finds of a record is what the definitions say, one record after the other. Assumes nothing.
-use mathlib.Core.Path.{◌≡◌, refl, ap, subst, ◌∙◌}
+use mathlib.Core.Path.{◌≡◌, refl, sym, ap, subst, ◌∙◌}
 use mathlib.Core.Bool.{Bool, true, false, cond}
 use mathlib.Core.List.{List, [], ◌∷◌}
 use Prim.Native.Nat.{ℕ, zero, suc, ◌+◌, ◌-◌, ◌≤◌, ◌<◌}
@@ -17,6 +17,13 @@ use Rattle.rules.specs.Days.{day_number, counts_days, difference}
 use Rattle.rules.specs.Book.{Format, records, check, pick, record_at, entry_at}
 use Rattle.rules.proofs.OnKinds.PackLaws.{handed-by, handed-tells}
 use Rattle.rules.proofs.OnBook.FrameLaws.{Stepped, then-met}
+use Rattle.kinds.specs.declared.Kind as Kinds
+use Rattle.kinds.specs.Views.{kind_of}
+use Rattle.kinds.proofs.Determined.{kind_back, kind-back}
+use Rattle.requests.proofs.OnEntries.KeepLaws.{either}
+use Rattle.refusals.specs.declared.Refusal.{Refusal}
+use Rattle.refusals.specs.Answers.{refusal_as}
+use Rattle.refusals.proofs.RefusalLaws.{refused}
 use Rattle.requests.specs.Second.{FieldEntry}
 use Rattle.requests.specs.Gaps.{Placed, same_kind, if_of_kind, placed_from}
 use Rattle.requests.specs.Both.{both}
@@ -87,7 +94,7 @@ apart a b =
     let u = up-sub a 11960684 in let d = dn-sub a 11960684 in let v = up-sub b 11960684 in let e = dn-sub b 11960684 in
     same _ _ (rw (up-sub b a, dn-sub b a) (omega arith))
 
-abs-sub : (a b : ℕ) → nat_abs (sub_ℕ b a) ≡ (b - a) + (a - b)
+pub abs-sub : (a b : ℕ) → nat_abs (sub_ℕ b a) ≡ (b - a) + (a - b)
 abs-sub a b = simp ints refl
 
 module _ (a b : ℕ) where
@@ -116,6 +123,12 @@ module _ (k : Kind) (t : Tallied) (place : ℕ) {x : Answer FieldEntry} (e : Fie
 pub sound-of : (k : Kind) {x : Answer FieldEntry} (e : FieldEntry) → x ≡ Gives e → Sound x → same_kind k e.kind ≡ true → given (handed k e.date) ≡ true
 sound-of k e g h s = subst (λ (j : Kind). given (handed j e.date) ≡ true) (same_kind_lem k e.kind s) (subst Sound g h)
 
+-- the code's kinds are one where their own are
+pub other-kind : (k j : Kinds.Kind) → (j ≡ k → ⊥) → same_kind (kind_of k) (kind_of j) ≡ false
+other-kind k j differ =
+    either (same_kind (kind_of k) (kind_of j))
+    (λ t. absurd (differ (sym (kind-back j) ∙ ap kind_back (same_kind_lem (kind_of k) (kind_of j) t) ∙ kind-back k))) (λ f. f)
+
 -- none is found where a book was checked
 module _ (k : Kind) (t : Tallied) (place : ℕ) {x : Answer FieldEntry} (n : ℕ) where
   pub seen_none : x ≡ Refused n → t ≡ tally k t (if_of_kind k place x [])
@@ -125,6 +138,14 @@ module _ (k : Kind) (t : Tallied) (place : ℕ) {x : Answer FieldEntry} (n : ℕ
   pub seen-bad : (bad : ℕ) → x ≡ RefusedAt n bad → t ≡ tally k t (if_of_kind k place x [])
   unfolding tally
   seen-bad bad g = rw g
+
+pub seen-refusing : (k : Kind) (t : Tallied) (place : ℕ) {x : Answer FieldEntry} (e : Refusal) → x ≡ refusal_as e → t ≡ tally k t (if_of_kind k place x [])
+seen-refusing k t place {x} e g = by x (ap given g ∙ refused FieldEntry e)
+  where
+    by : (y : Answer FieldEntry) → given y ≡ false → t ≡ tally k t (if_of_kind k place y [])
+    by (Gives f) u = cc
+    by (Refused n) u = seen_none k t place n refl
+    by (RefusedAt n bad) u = seen-bad k t place n bad refl
 
 -- the walk goes on from there
 pub tally-on : (k : Kind) (t : Tallied) (place : ℕ) (x : Answer FieldEntry) (rest : List Placed) →

@@ -13,25 +13,16 @@ ghost use Rattle.digits.specs.Places.{placed};
 ghost use Rattle.kinds.specs.Views.{kind_of};
 ghost use Rattle.gap_report.specs.Walk.{records_in, of_book, two_lines};
 ghost use Rattle.gap_report.specs.Figures.{figures, figures_answer, figures_over};
+ghost use Rattle.refusals.specs.Answers.{refusal_as};
 ghost use Rattle.gap_report.specs.Answers.{reported_as};
 
-use book::Checked;
 use book_versions::any;
 use kinds::Kind;
+use refusals::Refusal;
 
 mod lines;
 mod numbers;
 mod tally;
-
-// How many bytes were written, or numbers; or why nothing was.
-#[derive(Clone, Copy)]
-pub enum Reported {
-    Length(usize),
-    BadLength,
-    BadVersion,
-    BadRecord(usize),
-    Short,
-}
 
 // How many numbers the figures are.
 const FIGURES: usize = 36;
@@ -70,7 +61,7 @@ fn build(b: &[u8], n: usize, out: &mut [u8]) -> usize
 }
 
 // Where there is room for it: it is built in a room of its own, and copied.
-fn put_report(b: &[u8], n: usize, out: &mut [u8]) -> Reported
+fn put_report(b: &[u8], n: usize, out: &mut [u8]) -> Result<usize, Refusal>
     requires { check (both b.now) b.now ≡ Gives n }
     ensures result_value { reported_as result ≡ put_answer (Gives (report_text (both b.now) (records_in b.now))) out.old }
     ensures out_after { out.new ≡ put_buffer (Gives (report_text (both b.now) (records_in b.now))) out.old }
@@ -78,44 +69,32 @@ fn put_report(b: &[u8], n: usize, out: &mut [u8]) -> Reported
     let mut room = [0u8; 714];
     let length = build(b, n, &mut room);
     if out.len() < length {
-        return Reported::Short;
+        return Err(Refusal::BufferShort);
     }
     spans::copy(&room[..length], out);
-    Reported::Length(length)
+    Ok(length)
 }
 
 // The report of a book of either version, at the front of a buffer; nothing where the book is refused or the buffer is shorter.
-pub fn report(b: &[u8], out: &mut [u8]) -> Reported
+pub fn report(b: &[u8], out: &mut [u8]) -> Result<usize, Refusal>
     ensures result_value { reported_as result ≡ put_answer (report b.now) out.old }
     ensures out_after { out.new ≡ put_buffer (report b.now) out.old }
 {
-    let checked = any::check(b);
-    match checked {
-        Checked::Records(n) => put_report(b, n, out),
-        Checked::BadLength => Reported::BadLength,
-        Checked::BadVersion => Reported::BadVersion,
-        Checked::BadRecord(place) => Reported::BadRecord(place),
-    }
+    let n = any::check(b)?;
+    put_report(b, n, out)
 }
 
 // Its figures, in the first of the numbers lent; nothing where the book is refused or fewer are lent than there are.
-pub fn figures(b: &[u8], out: &mut [i64]) -> Reported
+pub fn figures(b: &[u8], out: &mut [i64]) -> Result<usize, Refusal>
     ensures result_value { reported_as result ≡ figures_answer (figures b.now) out.old }
     ensures out_after { out.new ≡ figures_over (figures b.now) out.old }
 {
-    let checked = any::check(b);
-    match checked {
-        Checked::Records(n) => {
-            if out.len() < FIGURES {
-                return Reported::Short;
-            }
-            numbers::put_all(b, n, out);
-            Reported::Length(FIGURES)
-        }
-        Checked::BadLength => Reported::BadLength,
-        Checked::BadVersion => Reported::BadVersion,
-        Checked::BadRecord(place) => Reported::BadRecord(place),
+    let n = any::check(b)?;
+    if out.len() < FIGURES {
+        return Err(Refusal::BufferShort);
     }
+    numbers::put_all(b, n, out);
+    Ok(FIGURES)
 }
 
 // ---- what the program prints
@@ -151,17 +130,26 @@ fn print_refused_at(out: &mut [u8], n: u8, place: usize) -> usize
     end + 1
 }
 
+fn print_refusal(out: &mut [u8], refusal: Refusal) -> usize
+    requires { 50 ≤ length out.old }
+    ensures value { (result ≡ length (printed (refusal_as refusal))) × (result ≤ 50) }
+    ensures out_after { out.new ≡ placed (printed (refusal_as refusal)) out.old }
+{
+    let n = u8::from(refusal);
+    match refusal {
+        Refusal::BadRecord(place) | Refusal::FieldOrMark(place) => print_refused_at(out, n, place),
+        _ => print_refused(out, n),
+    }
+}
+
 // What `gaps` prints of whatever the buffer holds, in a buffer with room for six lines, each of at most 119 bytes.
 pub fn print(b: &[u8], out: &mut [u8]) -> usize
     requires { 714 ≤ length out.old }
     ensures value { (result ≡ length (printed (report b.now))) × (result ≤ 714) }
     ensures out_after { out.new ≡ placed (printed (report b.now)) out.old }
 {
-    let checked = any::check(b);
-    match checked {
-        Checked::Records(n) => build(b, n, out),
-        Checked::BadLength => print_refused(out, refusals::BAD_LENGTH),
-        Checked::BadVersion => print_refused(out, refusals::BAD_VERSION),
-        Checked::BadRecord(place) => print_refused_at(out, refusals::BAD_RECORD, place),
+    match any::check(b) {
+        Ok(n) => build(b, n, out),
+        Err(refusal) => print_refusal(out, refusal),
     }
 }

@@ -1,20 +1,21 @@
 // One walk over a book's records for each kind: what is kept of those of the kind.
-ghost use Rattle.std.specs.Prelude.{◌≡◌, true, [], ◌≤◌, ◌<◌, nat_abs, ◌-ℤ◌};
+ghost use Rattle.std.specs.Prelude.{◌≡◌, true, Some, [], ◌≤◌, ◌<◌, nat_abs, ◌-ℤ◌};
 ghost use Rattle.sign.specs.Halves.{up, dn};
 ghost use Rattle.rules.specs.Refusals.{Gives, given};
 ghost use Rattle.rules.specs.Kinds.{unpacked, handed};
 ghost use Rattle.rules.specs.Book.{check};
 ghost use Rattle.requests.specs.Both.{both};
-ghost use Rattle.requests.specs.Gaps.{same_kind, if_of_kind, chosen, earlier, later, longer};
+ghost use Rattle.requests.specs.Gaps.{if_of_kind, chosen, earlier, later, longer};
 ghost use Rattle.kinds.specs.Views.{kind_of, bits_of, ordered_as};
 ghost use Rattle.book.specs.Views.{found_as};
 ghost use Rattle.gap_report.specs.Walk.{of_book, Sound, number_for, number_at, nothing, begun, added, counted, tally};
 ghost use Rattle.gap_report.specs.Views.{or_same, step_as, tallied_as, OneOf, Dated};
 
-use book::Found;
+use book::Record;
 use book_versions::any;
-use day_count::Days;
-use kinds::{Kind, Ordered, Packed};
+use kinds::{Kind, Packed};
+use refusals::Refusal;
+use std::cmp::Ordering;
 
 // What the records of a kind have told so far; nothing where the count is 0. The dates have the marks that they were found with. `first` and
 // `last` are the day numbers of the first and of the last record, counted from the least one, and `at` is the place of the last; `step` is
@@ -58,8 +59,7 @@ fn from_least(n: i32) -> u32
     requires { (up n ≤ 11960319) × (dn n ≤ 11960684) }
     ensures { number_at result ≡ n }
 {
-    let h = sign::halves32(n);
-    (ZERO as u64 + h.up - h.dn) as u32
+    (i64::from(ZERO) + i64::from(n)) as u32
 }
 
 // The day number of a date, counted from the least: from its difference to the date whose number is 0. A kind that counts no days has 0.
@@ -67,10 +67,9 @@ fn day_number(kind: Kind, date: Packed) -> u32
     requires { given (handed (kind_of kind) (bits_of date)) ≡ true }
     ensures { number_at result ≡ number_for (kind_of kind) (unpacked (bits_of date)) }
 {
-    let days = day_count::days_until(kind, ZERO_DATE, date);
-    match days {
-        Days::Days(n) => from_least(n),
-        Days::NotOfKind => ZERO,
+    match day_count::days_until(kind, ZERO_DATE, date) {
+        Some(n) => from_least(n),
+        None => ZERO,
     }
 }
 
@@ -78,23 +77,15 @@ fn day_number(kind: Kind, date: Packed) -> u32
 fn distance(a: u32, b: u32) -> u32
     ensures { result ≡ nat_abs (number_at b -ℤ number_at a) }
 {
-    if b < a {
-        return a - b;
-    }
-    b - a
+    a.abs_diff(b)
 }
 
-// The second date where the order says After, else the first.
-fn chosen(order: Ordered, f: Packed, g: Packed) -> Packed
-    ensures result_value { unpacked (bits_of result) ≡ chosen (or_same (ordered_as order)) (unpacked (bits_of f)) (unpacked (bits_of g)) }
+// The second date where the first stands after it in the order, else the first.
+fn chosen(order: Ordering, f: Packed, g: Packed) -> Packed
+    ensures result_value { unpacked (bits_of result) ≡ chosen (or_same (ordered_as (Some order))) (unpacked (bits_of f)) (unpacked (bits_of g)) }
     ensures one_of { OneOf (bits_of f) (bits_of g) (bits_of result) }
 {
-    match order {
-        Ordered::Before => f,
-        Ordered::Same => f,
-        Ordered::After => g,
-        Ordered::NotOfKind => f,
-    }
+    if order.is_gt() { g } else { f }
 }
 
 fn earlier(f: Packed, g: Packed) -> Packed
@@ -141,10 +132,7 @@ struct Step {
 fn longer(s: Step, t: Step) -> Step
     ensures { step_as result ≡ longer (step_as s) (step_as t) }
 {
-    if t.long <= s.long {
-        return s;
-    }
-    t
+    if t.long <= s.long { s } else { t }
 }
 
 // One more.
@@ -191,36 +179,21 @@ fn counted(t: Tally, kind: Kind, place: u32, date: Packed) -> Tally
     added(t, kind, place, date)
 }
 
-fn same_kind(kind: Kind, other: Kind) -> bool
-    ensures { result ≡ same_kind (kind_of kind) (kind_of other) }
-{
-    codes::kind_code(kind) == codes::kind_code(other)
-}
-
 // What was found at a place, if it is of the kind.
-fn seen(t: Tally, kind: Kind, place: u32, found: Found) -> Tally
+fn seen(t: Tally, kind: Kind, place: u32, found: Result<Record, Refusal>) -> Tally
     requires sound { Sound (found_as found) }
     requires count_bound { t.count < 4294967295 }
     requires dated { Dated (kind_of kind) t }
     ensures dated_2 { Dated (kind_of kind) result }
     ensures result_value { tallied_as result ≡ tally (kind_of kind) (tallied_as t) (if_of_kind (kind_of kind) place (found_as found) []) }
 {
-    match found {
-        Found::Record {
-            kind: own,
-            field: _,
-            date,
-        } => {
-            if same_kind(kind, own) {
-                return counted(t, kind, place, date);
-            }
-            t
-        }
-        Found::BadLength => t,
-        Found::BadVersion => t,
-        Found::BadRecord(_) => t,
-        Found::NoRecord => t,
+    let Ok(record) = found else {
+        return t;
+    };
+    if record.kind != kind {
+        return t;
     }
+    counted(t, kind, place, record.date)
 }
 
 // The walk for a kind over the n records of a book that was checked.
@@ -230,10 +203,8 @@ pub(crate) fn walk(b: &[u8], n: usize, kind: Kind) -> Tally
     ensures result_value { tallied_as result ≡ tally (kind_of kind) nothing (of_book (kind_of kind) b.now) }
 {
     let mut t = NOTHING;
-    let mut i = 0;
-    while i < n {
+    for i in 0..n {
         t = seen(t, kind, i as u32, any::entry(b, i));
-        i += 1;
     }
     t
 }

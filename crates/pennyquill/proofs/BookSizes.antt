@@ -2,7 +2,7 @@
 -- at each. Assumes nothing.
 use mathlib.Core.Path.{◌≡◌, refl}
 use mathlib.Core.Bool.{Bool, true, false, cond, ◌&&◌}
-use mathlib.Core.List.{List, [], ◌∷◌, map}
+use mathlib.Core.List.{List, [], ◌∷◌}
 use Prim.Native.Nat.{ℕ, zero, suc, ◌+◌, ◌-◌, ◌/◌, ◌%◌, ◌≤◌}
 use native.Mathlib.Omega.{arith}
 use native.Mathlib.Nat.{le_refl}
@@ -10,18 +10,16 @@ use borrow.Author.Tests.{ltb-true}
 use lib.Dec.{leb, ltb, eqb}
 use lib.ListN.{length, get_or, length-map}
 use Rattle.rules.specs.Words.{within}
-use Rattle.rules.specs.Refusals.{Answer, Gives, Refused, RefusedAt, ◌then◌, demand, bad_record}
-use Rattle.rules.specs.Kinds.{Fields, Stored, of_kind, mark_of, no_mark, handed}
-use Rattle.rules.specs.Book.{new_answer, Frame, Format, sound_by, length_size, head_size, length_limit, length_said, version_of, pieces_at, framed, first_bad, all_pass, records, check, pick, record_at, entry_at, place_after, append_answer, kind_of_code, unmarked_date, entry_from, entry_of, entry_for, version1}
+use Rattle.rules.specs.Refusals.{Answer, Gives, Refused, RefusedAt, ◌then◌, bad_record}
+use Rattle.rules.specs.Kinds.{Stored, of_kind, mark_of, no_mark, handed}
+use Rattle.rules.specs.Book.{new_answer, Frame, Format, sound_by, length_size, head_size, length_limit, length_said, version_of, framed, first_bad, all_pass, records, check, pick, record_at, entry_at, place_after, append_answer, kind_of_code, unmarked_date, entry_from, entry_of, entry_for, version1}
 use Rattle.rules.proofs.OnBook.FrameLaws.{Sensible, found_framed}
 use Rattle.rules.proofs.OnBook.EntryLaws.{version1-sensible}
-use Rattle.requests.specs.Second.{FieldEntry, most_field, stored_from, date_in, field_entry_of, field_entry_for, version2}
-use Rattle.requests.specs.Both.{retold, fieldless, version1_told, format_by, both}
-use Rattle.requests.specs.Moves.{Way, field_or_mark, room_for, leaving, moved, move_answer, upward, downward}
-use Rattle.requests.specs.Fours.{least}
+use Rattle.requests.specs.Second.{most_field, stored_from, date_in, field_entry_of, field_entry_for, version2}
+use Rattle.requests.specs.Both.{retold, version1_told, format_by, both}
+use Rattle.requests.specs.Moves.{Way, field_or_mark, room_for, leaving, moved, move_answer}
 use Rattle.requests.proofs.OnFours.FourLaws.{least_first}
 use Rattle.requests.proofs.OnSecond.FieldEntryLaws.{version2-sensible}
-use Rattle.book.specs.Views.{in_bits}
 use Rattle.book_versions.specs.Walk.{walked}
 use Rattle.pennyquill.specs.Boundary.{number_of, place_of}
 use Rattle.pennyquill.proofs.Sizes.{Small, Few, Any, small-then, small-demand, small-number, small-place, handed-small, code-small}

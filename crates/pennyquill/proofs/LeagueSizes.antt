@@ -7,7 +7,7 @@ use native.Mathlib.Omega.{arith}
 use lib.ListN.{length, length-map}
 use Rattle.rules.specs.Refusals.{Answer, Gives}
 use Rattle.rules.proofs.OnBook.FrameLaws.{demand-met, then-met}
-use Rattle.requests.specs.FieldTable.{bad_entry, counted, entries, table1}
+use Rattle.requests.specs.FieldTable.{bad_entry, counted, table1}
 use Rattle.requests.specs.Leagues.{table2, is_league, own, share_most, shared_entries, own_of, own_entries, own_entry_at, declare_own, own_declaration, own_removal, of_first, moved_entries}
 use Rattle.requests.proofs.OnLeagues.SharedLaws.{shared-tells}
 use Rattle.requests.proofs.OnLeagues.AfterLaws.{of-league, declared-changes, removed-changes}

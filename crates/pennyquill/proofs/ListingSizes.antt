@@ -6,7 +6,7 @@ use borrow.Author.Tests.{leb-true}
 use lib.Dec.{leb}
 use lib.ListN.{length}
 use Rattle.rules.specs.Spelling.{put_answer}
-use Rattle.rules.specs.Listing.{input_limit, listing}
+use Rattle.rules.specs.Listing.{input_limit}
 use Rattle.requests.specs.ListingRoom.{listing_room, lent_listing}
 use Rattle.requests.proofs.OnListingRoom.RoomLaws.{listing-room}
 use Rattle.pennyquill.specs.Boundary.{number_of}

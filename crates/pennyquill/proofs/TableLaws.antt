@@ -1,23 +1,20 @@
 -- A field table across the boundary: how large the counts are, and how many lookups one call answers. Assumes nothing.
-use mathlib.Core.Path.{◌≡◌, refl, sym, ap, ◌∙◌}
-use mathlib.Core.Bool.{Bool, true, false, cond}
-use mathlib.Core.List.{List, [], ◌∷◌, ◌++◌, append_assoc}
-use Prim.Native.Nat.{ℕ, zero, suc, ◌+◌, ◌*◌, ◌/◌, ◌≤◌, ◌<◌}
-use native.Mathlib.Numerals.{add-one}
+use mathlib.Core.Path.{◌≡◌, refl}
+use mathlib.Core.Bool.{Bool, false}
+use mathlib.Core.List.{List}
+use Prim.Native.Nat.{ℕ, ◌*◌, ◌/◌, ◌≤◌}
 use native.Mathlib.Omega.{arith}
-use borrow.Author.Tests.{leb-true, leb-false}
-use lib.Dec.{leb, lit<}
+use lib.Dec.{lit<}
 use lib.IntN.{ℤ}
-use lib.ListN.{length, take, drop, set, length-append, length-drop}
-use lib.Seq.{sets, sets-eq, take_at, drop-append-add, drop-drop}
+use lib.ListN.{length}
 use Rattle.std.proofs.Common.{rules}
 use Rattle.rules.specs.Refusals.{Answer, Gives, Refused, RefusedAt, ◌then◌, given}
-use Rattle.rules.specs.Kinds.{Kind, kind_by}
+use Rattle.rules.specs.Kinds.{Kind}
 use Rattle.rules.specs.Numbers.{reads_numbers, guesses}
-use Rattle.rules.specs.Book.{framed, pick, kind_code}
+use Rattle.rules.specs.Book.{pick, kind_code}
 use Rattle.rules.proofs.OnKinds.CodeLaws.{outcome-kind}
-use Rattle.rules.proofs.OnBook.FrameLaws.{Sensible, then-met}
-use Rattle.requests.specs.FieldTable.{TableFormat, table_frame, table1, is_key, bad_entry, kind_among, declared_kind, game_kind, declaring, declared_by, entry_for, entries, counted, check, entry_at, declare_in, remove_in, declared, removed}
+use Rattle.rules.proofs.OnBook.FrameLaws.{Sensible}
+use Rattle.requests.specs.FieldTable.{TableFormat, table_frame, table1, bad_entry, kind_among, game_kind, declaring, declared_by, entry_for, entries, counted, check, entry_at, declare_in, remove_in, declared, removed}
 use Rattle.requests.proofs.OnFieldTable.HeldLaws.{sensible-table, found-holds}
 use Rattle.requests.specs.Fours.{least}
 use Rattle.requests.proofs.OnFours.FourLaws.{least_first, least-second}

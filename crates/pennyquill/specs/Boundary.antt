@@ -1,7 +1,7 @@
 -- What crosses to C: a kind and a date as numbers, and an answer as a struct, every member of it. Assumes nothing.
 use Rattle.std.specs.Prelude.{ℕ, ◌/◌, ◌%◌, ℤ, pos}
 use Rattle.rules.specs.Words.{minus}
-use Rattle.rules.specs.Refusals.{Answer, Gives, Refused, RefusedAt, ◌then◌, not_of_kind}
+use Rattle.rules.specs.Refusals.{Answer, Gives, Refused, RefusedAt, ◌then◌}
 use Rattle.rules.specs.Kinds.{Kind, Fields, Stored, store, of_date, of_dates}
 use Rattle.rules.specs.Days.{Order, Before, Same, After}
 use Rattle.rules.specs.Book.{kind_code, kind_of_code, year_of_twos}

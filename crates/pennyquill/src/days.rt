@@ -62,7 +62,11 @@ pub extern "C" fn pq_days_until(kind: u32, first: u32, second: u32) -> PqNumber
     let Some(kind) = codes::kind_of_code(kind) else {
         return crossing::no_number();
     };
-    crossing::number_or_none(day_count::days_until(kind, crossing::date_in(first), crossing::date_in(second)))
+    crossing::number_or_none(day_count::days_until(
+        kind,
+        crossing::date_in(first),
+        crossing::date_in(second),
+    ))
 }
 
 #[unsafe(no_mangle)]

@@ -1,5 +1,5 @@
 -- `pennyquill::dates::pq_read_number` meets its contract: a kind that lacks the operation. Assumes nothing.
-use Rattle.std.proofs.Common.{sym, ap, ◌∙◌}
+use Rattle.std.proofs.Common.{sym, ◌∙◌}
 use Rattle.rules.specs.Numbers.{read_number}
 use Rattle.pennyquill.proofs.Laws.{by_code}
 use Rattle.pennyquill.proofs.dates.pq_read_number.Goals as goal

@@ -32,6 +32,8 @@ impl DateHour {
         },
     };
 
+    // Kept (point 2): H's hours and V's blocks have names of their own in document 01 and at the C boundary; the one function of both is
+    // `hour_count::add`, and `until` of the next.
     // A new date, with the mark of the old one, which stays.
     pub fn add_hours(self, hours: i32) -> Result<DateHour, Refusal>
         ensures { summed_as result ≡ store_like (bits self) (of_date kH (bits self) (λ f. add_hours kH f hours)) }

@@ -30,7 +30,7 @@ module _ (y : ℤ) (lo hi : ℕ) where
   in-range : (up y ≤ hi) × (dn y ≤ lo) → within_z (minus lo) (pos hi) y ≡ true
   in-range h = rw (yes_le (minus lo) y (simp ints (omega (arith, one_side y))), yes_le y (pos hi) (omega (arith, one_side y)))
 
-  pub fits_in : within_z (minus lo) (pos hi) y ≡ true → (up y ≤ hi) × (dn y ≤ lo)
+  fits_in : within_z (minus lo) (pos hi) y ≡ true → (up y ≤ hi) × (dn y ≤ lo)
   fits_in e =
       let l = simp ints at (le-true (minus lo) y (left (le_z (minus lo) y) (le_z y (pos hi)) e)) in
       let h = le-true y (pos hi) (right (le_z (minus lo) y) (le_z y (pos hi)) e) in

@@ -3,7 +3,6 @@
 #![tactic(auto)]
 
 ghost use Rattle.std.specs.Prelude.{◌≡◌, drop};
-ghost use Rattle.rules.specs.Words.{fits32};
 ghost use Rattle.rules.specs.Refusals.{◌then◌, not_text};
 ghost use Rattle.rules.specs.Kinds.{settled, store};
 ghost use Rattle.rules.specs.Text.{reads_number_texts, number_text, text_fields};
@@ -24,13 +23,6 @@ fn reads_number_texts(kind: Kind) -> bool
         Kind::Date | Kind::Hour | Kind::Uniform => true,
         Kind::Raw | Kind::Eu5 | Kind::Vic3 => false,
     }
-}
-
-// Whether 32 bits hold a number.
-pub fn fits32(value: i64) -> bool
-    ensures { result ≡ fits32 value }
-{
-    i32::try_from(value).is_ok()
 }
 
 // A number text, its hour unchanged. The number must fit 32 bits.

@@ -32,6 +32,8 @@ impl Vic3Date {
         },
     };
 
+    // Kept (point 2): H's hours and V's blocks have names of their own in document 01 and at the C boundary; the one function of both is
+    // `hour_count::add`, and `until` of the next.
     // A new date, moved by blocks of six hours, with the mark of the old one, which stays.
     pub fn add_blocks(self, blocks: i32) -> Result<Vic3Date, Refusal>
         ensures { summed_as result ≡ store_like (bits self) (of_date kV (bits self) (λ f. add_blocks kV f blocks)) }

@@ -1,9 +1,10 @@
 -- What is told of an operation on a table, as a value or a refusal. Assumes nothing.
-use Rattle.std.specs.Prelude.{ℕ, Bool, true, false}
-use Rattle.rules.specs.Refusals.{Answer, Gives, Refused}
+use Rattle.std.specs.Prelude.{ℕ, Bool, true, false, Result, Ok, Err}
+use Rattle.rules.specs.Refusals.{Answer}
 use Rattle.requests.specs.FieldTable.{Declared}
-use Rattle.kinds.specs.Views.{kind_of, bits_of}
-use Rattle.field_table.specs.Views.{Bits}
+use Rattle.refusals.specs.declared.Refusal.{Refusal}
+use Rattle.refusals.specs.Answers.{result_as}
+use Rattle.field_table.specs.Views.{Bits, declared_as, bits_in}
 use Rattle.script.specs.declared.table_answers.Told.{Told}
 use Rattle.script.specs.declared.table_answers.Told.TheVariants as T
 
@@ -14,19 +15,19 @@ pub data Value : Type 0 where
   Declares : Declared → Value
   Dated : Bits → Value
 
-abbrev pub told_as : Told → Answer Value
-told_as T.Done = Gives Done
-told_as (T.Number n) = Gives (Number n)
-told_as (T.Entry field k) = Gives (Declares (record { key = field; kind = kind_of k }))
-told_as (T.Declared k d) = Gives (Dated (record { kind = kind_of k; date = bits_of d; guessed = false }))
-told_as (T.Guessed k d) = Gives (Dated (record { kind = kind_of k; date = bits_of d; guessed = true }))
-told_as (T.Refused n) = Refused n
+abbrev pub value_of : Told → Value
+value_of T.Done = Done
+value_of (T.Number n) = Number n
+value_of (T.Entry e) = Declares (declared_as e)
+value_of (T.Dated l) = Dated (bits_in l)
+
+abbrev pub told_as : Result Told Refusal → Answer Value
+told_as = result_as value_of
 
 -- whether a number is told, and no refusal
-abbrev pub is_number : Told → Bool
-is_number T.Done = false
-is_number (T.Number n) = true
-is_number (T.Entry field k) = false
-is_number (T.Declared k d) = false
-is_number (T.Guessed k d) = false
-is_number (T.Refused n) = false
+abbrev pub is_number : Result Told Refusal → Bool
+is_number (Ok T.Done) = false
+is_number (Ok (T.Number n)) = true
+is_number (Ok (T.Entry e)) = false
+is_number (Ok (T.Dated l)) = false
+is_number (Err refusal) = false

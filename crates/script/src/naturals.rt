@@ -1,18 +1,11 @@
 // Numbers of a line, of fewer bits than those of `rows`, read as these are: where none is found the place after it is NOWHERE.
-ghost use Rattle.std.specs.Prelude.{◌≡◌, drop};
-ghost use Rattle.script.specs.Naturals.{natural_up_to, word_as, byte_as};
+ghost use Rattle.std.specs.Prelude.{◌≡◌, ◌≤◌, drop};
+ghost use Rattle.script.specs.Naturals.{natural_up_to, part_as};
 
-// A number of 32 bits without a sign, and the place after it.
+// A part of a line, and the place after it.
 #[derive(Clone, Copy)]
-pub struct Word {
-    pub value: u32,
-    pub next: usize,
-}
-
-// A number of 8 bits, and the place after it.
-#[derive(Clone, Copy)]
-pub struct Byte {
-    pub value: u8,
+pub struct Part<T> {
+    pub value: T,
     pub next: usize,
 }
 
@@ -23,38 +16,39 @@ pub fn place_of(n: u64) -> usize
     n as usize
 }
 
-pub fn word32(row: &[u8], at: usize) -> Word
-    ensures { word_as row.now result ≡ natural_up_to 4294967295 (drop at row.now) }
+// A number without a sign that is at most so great.
+pub fn at_most(row: &[u8], at: usize, most: u64) -> Part<u64>
+    ensures value { part_as row.now result ≡ natural_up_to most (drop at row.now) }
+    ensures upper_bound { result.value ≤ most }
 {
-    let n = rows::natural(row, at);
-    let up = n.up;
-    let next = n.next;
-    if up <= 4294967295 {
-        return Word {
-            value: up as u32,
-            next,
+    let rows::Number { up, next, .. } = rows::natural(row, at);
+    if most < up {
+        return Part {
+            value: 0,
+            next: rows::NOWHERE,
         };
     }
-    Word {
-        value: 0,
-        next: rows::NOWHERE,
+    Part { value: up, next }
+}
+
+// A number of 32 bits without a sign.
+pub fn word32(row: &[u8], at: usize) -> Part<u32>
+    ensures { part_as row.now result ≡ natural_up_to 4294967295 (drop at row.now) }
+{
+    let Part { value, next } = at_most(row, at, 0xffff_ffff);
+    Part {
+        value: value as u32,
+        next,
     }
 }
 
-pub fn byte8(row: &[u8], at: usize) -> Byte
-    ensures { byte_as row.now result ≡ natural_up_to 255 (drop at row.now) }
+// A number of 8 bits without a sign.
+pub fn byte8(row: &[u8], at: usize) -> Part<u8>
+    ensures { part_as row.now result ≡ natural_up_to 255 (drop at row.now) }
 {
-    let n = rows::natural(row, at);
-    let up = n.up;
-    let next = n.next;
-    if up <= 255 {
-        return Byte {
-            value: up as u8,
-            next,
-        };
-    }
-    Byte {
-        value: 0,
-        next: rows::NOWHERE,
+    let Part { value, next } = at_most(row, at, 0xff);
+    Part {
+        value: value as u8,
+        next,
     }
 }

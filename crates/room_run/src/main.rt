@@ -2,10 +2,11 @@
 // `compare/README.md` has the format of the script and of what is told.
 #![tactic(auto)]
 
-ghost use Rattle.std.specs.Prelude.{◌≡◌, ◌≤◌, length, IfOk, OnErr};
+ghost use Rattle.std.specs.Prelude.{◌≤◌, length};
 
 use crate::lines::Line;
-use listing::{Listed, room};
+use listing::room;
+use script::running;
 use std::io;
 use std::io::{Read, Write};
 
@@ -18,7 +19,14 @@ fn main(rt: HostRuntime) -> io::Result<()> {
     let mut input = room();
     let mut lent = room();
     let n = intake::read_full(&mut rt.reader(), &mut script)?;
-    run(&mut io::writer(&rt), &script[..n], &mut input, &mut lent)
+    let mut rooms = Rooms {
+        input: &mut input,
+        size: 0,
+        lent: &mut lent,
+    };
+    running::run(&mut io::writer(&rt), &script[..n], |out, row| {
+        rooms.step(out, row)
+    })
 }
 
 // Room for the script.
@@ -32,76 +40,57 @@ fn room() -> [u8; 786432] {
     [0u8; 786432]
 }
 
-// Runs a script. The input is the front of the room for it, at first without bytes.
-fn run<W: Write>(out: &mut W, script: &[u8], input: &mut [u8], lent: &mut [u8]) -> io::Result<()> {
-    let mut size = 0;
-    let mut at = 0;
-    while at < script.len() {
-        let end = rows::next_line(script, at);
-        size = step(out, &script[at..end], input, lent, size)?;
-        at = end;
-    }
-    Ok(())
+// The input is the front of the room for it, at first without bytes; a buffer that is lent is the front of the other room.
+struct Rooms<'a> {
+    input: &'a mut [u8],
+    size: usize,
+    lent: &'a mut [u8],
+    ghost size_in_bounds: { size ≤ length input },
 }
 
-// Does one row, and gives the size of the input after it. A row that cannot be done is told as such, which no expected output has.
-fn step<W: Write>(
-    out: &mut W,
-    row: &[u8],
-    input: &mut [u8],
-    lent: &mut [u8],
-    size: usize,
-) -> io::Result<usize>
-    requires { size ≤ length input.old }
-    ensures ok { IfOk result (λ n. n ≤ length input.old) }
-    ensures err { OnErr result (length input.new ≡ length input.old) }
-{
-    match lines::read(row) {
-        Line::Remark => {
-            telling::line(out, row, b"\n")?;
-            Ok(size)
-        }
-        Line::Clear => Ok(0),
-        Line::Put { from, ends } => put(out, row, input, size, from, ends),
-        Line::Room(n) => {
-            telling::room(out, row, room::room_for(n))?;
-            Ok(size)
-        }
-        Line::List { length, byte } => {
-            if length <= lent.len() {
-                let answer = input::list(&input[..size], &mut lent[..length], byte);
-                telling::listing(out, row, answer, &lent[..length])?;
-                return Ok(size);
+impl Rooms<'_> {
+    // Does one row. A row that cannot be done is told as such, which no expected output has.
+    fn step<W: Write>(&mut self, out: &mut W, row: &[u8]) -> io::Result<()> {
+        match lines::read(row) {
+            Line::Remark => script::telling::remark(out, row),
+            Line::Clear => {
+                self.size = 0;
+                Ok(())
             }
-            telling::unread(out, row)?;
-            Ok(size)
-        }
-        Line::Unread => {
-            telling::unread(out, row)?;
-            Ok(size)
+            Line::Put { from, ends } => {
+                let done = self.put(lines::text(row, from), ends);
+                script::telling::unread_unless(out, row, done)
+            }
+            Line::Room(n) => telling::room(out, row, room::room_for(n)),
+            Line::List { length, byte } => self.list(out, row, length, byte),
+            Line::Unread => script::telling::unread(out, row),
         }
     }
-}
 
-// Puts the text from a place of the row on, and so many line ends, behind the input, and gives its size.
-fn put<W: Write>(
-    out: &mut W,
-    row: &[u8],
-    input: &mut [u8],
-    size: usize,
-    from: usize,
-    ends: usize,
-) -> io::Result<usize>
-    requires { size ≤ length input.old }
-    ensures ok { IfOk result (λ n. n ≤ length input.old) }
-    ensures err { OnErr result (length input.new ≡ length input.old) }
-{
-    let answer = input::put(&mut input[size..], lines::text(row, from), ends);
-    match answer {
-        Listed::Length(n) => Ok(size + n),
-        Listed::Short => {
-            telling::unread(out, row)?;
-            Ok(size)
+    // Puts a text and so many line ends behind the input. Says whether there was room for them.
+    fn put(&mut self, text: &[u8], ends: usize) -> bool {
+        match input::put(&mut self.input[self.size..], text, ends) {
+            Ok(n) => {
+                self.size += n;
+                true
+            }
+            Err(_) => false,
         }
+    }
+
+    // The listing of the input in a buffer of so many bytes, each this one before.
+    fn list<W: Write>(
+        &mut self,
+        out: &mut W,
+        row: &[u8],
+        length: usize,
+        byte: u8,
+    ) -> io::Result<()> {
+        if self.lent.len() < length {
+            return script::telling::unread(out, row);
+        }
+        let buffer = &mut self.lent[..length];
+        let answer = input::list(&self.input[..self.size], buffer, byte);
+        telling::listing(out, row, answer, buffer)
     }
 }

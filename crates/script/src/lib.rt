@@ -6,6 +6,7 @@
 
 pub mod naturals;
 pub mod preparing;
+pub mod running;
 pub mod table_answers;
 pub mod telling;
 pub mod weighing;

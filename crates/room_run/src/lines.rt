@@ -60,12 +60,11 @@ pub(crate) fn read(row: &[u8]) -> Line
 fn worded(row: &[u8], word: &[u8], end: usize, line: Line, other: Line) -> Line
     ensures { result ≡ worded_or word.now row.now (drop end row.now) line other }
 {
-    if rows::ends(row, end) {
-        if rows::after_word(row, 0, word) < row.len() {
-            return line;
-        }
+    if rows::ends(row, end) && rows::after_word(row, 0, word) < row.len() {
+        line
+    } else {
+        other
     }
-    other
 }
 
 // What stands from a place on, up to the line end.

@@ -41,11 +41,12 @@ fn room() -> [u8; 786432] {
 }
 
 // The input is the front of the room for it, at first without bytes; a buffer that is lent is the front of the other room.
+#[derive(Drop)]
 struct Rooms<'a> {
     input: &'a mut [u8],
     size: usize,
     lent: &'a mut [u8],
-    ghost size_in_bounds: { size ≤ length input },
+    ghost size_in_bounds: { size ≤ length input.now },
 }
 
 impl Rooms<'_> {

@@ -3,24 +3,30 @@
 // `compare/README.md` has the format of the script and of what is told.
 #![tactic(auto)]
 
-ghost use Rattle.std.specs.Prelude.{◌≡◌, ◌≤◌, length, IfOk, OnErr};
+ghost use Rattle.std.specs.Prelude.{◌≤◌, length};
 
 use crate::lines::Line;
-use script::{preparing, table_answers};
+use script::{preparing, running, table_answers, telling};
 use std::io;
 use std::io::{Read, Write};
 
 mod lines;
 mod operations;
 mod setting;
-mod telling;
 
 fn main(rt: HostRuntime) -> io::Result<()> {
     let mut script = room();
     let mut here = room();
     let mut there = room();
     let n = intake::read_full(&mut rt.reader(), &mut script)?;
-    run(&mut io::writer(&rt), &script[..n], &mut here, &mut there)
+    let mut rooms = Rooms {
+        room: &mut here,
+        size: 0,
+        spare: &mut there,
+    };
+    running::run(&mut io::writer(&rt), &script[..n], |out, row| {
+        rooms.step(out, row)
+    })
 }
 
 // Room for the script, for the buffer in use, and for the other one.
@@ -28,100 +34,80 @@ fn room() -> [u8; 131072] {
     [0u8; 131072]
 }
 
-// Runs a script in the room that it is lent. Its buffer is the front of that room, at first empty; the other one, and the target of a
-// move, is the front of the spare room.
-fn run<W: Write>(out: &mut W, script: &[u8], room: &mut [u8], spare: &mut [u8]) -> io::Result<()> {
-    let mut size = 0;
-    let mut at = 0;
-    while at < script.len() {
-        let end = rows::next_line(script, at);
-        size = step(out, &script[at..end], room, spare, size)?;
-        at = end;
-    }
-    Ok(())
+// The buffer is the front of a room, at first empty; the other one, and the target of a move, is the front of the spare room.
+#[derive(Drop)]
+struct Rooms<'a> {
+    room: &'a mut [u8],
+    size: usize,
+    spare: &'a mut [u8],
+    ghost size_in_bounds: { size ≤ length room.now },
 }
 
-// Does one line, and gives the size of the buffer after it. A line that cannot be done is told as such, which no expected output has.
-fn step<W: Write>(
-    out: &mut W,
-    row: &[u8],
-    room: &mut [u8],
-    spare: &mut [u8],
-    size: usize,
-) -> io::Result<usize>
-    requires { size ≤ length room.old }
-    ensures ok { IfOk result (λ n. n ≤ length room.old) }
-    ensures err { OnErr result (length room.new ≡ length room.old) }
-{
-    match lines::read(row) {
-        Line::Remark => {
-            telling::remark(out, row)?;
-            Ok(size)
-        }
-        Line::Buffer { length, byte } => {
-            if length <= room.len() {
-                preparing::fill(&mut room[..length], byte);
-                return Ok(length);
+impl Rooms<'_> {
+    // Does one line. A line that cannot be done is told as such, which no expected output has.
+    fn step<W: Write>(&mut self, out: &mut W, row: &[u8]) -> io::Result<()> {
+        match lines::read(row) {
+            Line::Remark => telling::remark(out, row),
+            Line::Buffer { length, byte } => {
+                let done = self.buffer(length, byte);
+                telling::unread_unless(out, row, done)
             }
-            telling::unread(out, row)?;
-            Ok(size)
-        }
-        Line::Setting(change) => {
-            let done = setting::set(&mut room[..size], change);
-            telling::unread_unless(out, row, done)?;
-            Ok(size)
-        }
-        Line::Swap => {
-            if size <= spare.len() {
-                setting::swap(&mut room[..size], &mut spare[..size]);
-                return Ok(size);
+            Line::Setting(change) => {
+                let done = setting::set(&mut self.room[..self.size], change);
+                telling::unread_unless(out, row, done)
             }
-            telling::unread(out, row)?;
-            Ok(size)
-        }
-        Line::Operation(operation) => {
-            let told = operations::operate(&mut room[..size], operation);
-            telling::tell(out, row, told, &room[..size])?;
-            Ok(size)
-        }
-        Line::Move { length, byte } => {
-            if length <= spare.len() {
-                if length <= room.len() {
-                    return moved(out, row, room, size, &mut spare[..length], byte);
-                }
+            Line::Swap => {
+                let done = self.swap();
+                telling::unread_unless(out, row, done)
             }
-            telling::unread(out, row)?;
-            Ok(size)
-        }
-        Line::Unread => {
-            telling::unread(out, row)?;
-            Ok(size)
+            Line::Operation(operation) => {
+                let buffer = &mut self.room[..self.size];
+                let told = operations::operate(buffer, operation);
+                telling::table(out, row, told, buffer)
+            }
+            Line::Move { length, byte } => self.moved(out, row, length, byte),
+            Line::Unread => telling::unread(out, row),
         }
     }
-}
 
-// Moves the table of version 1 in the buffer into a target. Where that is done, the target is the buffer from then on. Gives the size of
-// the buffer.
-fn moved<W: Write>(
-    out: &mut W,
-    row: &[u8],
-    room: &mut [u8],
-    size: usize,
-    target: &mut [u8],
-    byte: u8,
-) -> io::Result<usize>
-    requires { (size ≤ length room.old) × (length target.old ≤ length room.old) }
-    ensures ok { IfOk result (λ n. n ≤ length room.old) }
-    ensures err { OnErr result (length room.new ≡ length room.old) }
-{
-    preparing::fill(target, byte);
-    let told = operations::move_table(&room[..size], target);
-    let done = table_answers::is_number(told);
-    telling::tell(out, row, told, target)?;
-    if done {
-        let length = target.len();
-        preparing::put(&mut room[..length], target);
-        return Ok(length);
+    // A buffer of so many bytes, each this one. Says whether there is room for it.
+    fn buffer(&mut self, length: usize, byte: u8) -> bool {
+        if self.room.len() < length {
+            return false;
+        }
+        preparing::fill(&mut self.room[..length], byte);
+        self.size = length;
+        true
     }
-    Ok(size)
+
+    // The buffer in use and as many bytes of the other one.
+    fn swap(&mut self) -> bool {
+        if self.spare.len() < self.size {
+            return false;
+        }
+        self.room[..self.size].swap_with_slice(&mut self.spare[..self.size]);
+        true
+    }
+
+    // Moves the table of version 1 in the buffer into a target of so many bytes, each this one before. Where that is done, the target is the
+    // buffer from then on.
+    fn moved<W: Write>(
+        &mut self,
+        out: &mut W,
+        row: &[u8],
+        length: usize,
+        byte: u8,
+    ) -> io::Result<()> {
+        if self.spare.len() < length || self.room.len() < length {
+            return telling::unread(out, row);
+        }
+        let target = &mut self.spare[..length];
+        preparing::fill(target, byte);
+        let told = operations::move_table(&self.room[..self.size], target);
+        if table_answers::is_number(told) {
+            preparing::put(&mut self.room[..length], target);
+            self.size = length;
+        }
+        telling::table(out, row, told, target)
+    }
 }

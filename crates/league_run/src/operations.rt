@@ -7,6 +7,7 @@ ghost use Rattle.script.specs.TableAnswers.{Number, told_as};
 ghost use Rattle.league_run.specs.Operations.{answer_of, buffer_of};
 
 use league_table::moves;
+use refusals::Refusal;
 use script::table_answers;
 use script::table_answers::Told;
 
@@ -41,31 +42,31 @@ pub(crate) enum Operation {
     },
 }
 
-pub(crate) fn operate(b: &mut [u8], operation: Operation) -> Told
+pub(crate) fn operate(b: &mut [u8], operation: Operation) -> Result<Told, Refusal>
     ensures result_value { told_as result ≡ answer_of operation b.old }
     ensures b_after { b.new ≡ buffer_of operation b.old }
 {
     match operation {
         Operation::New => table_answers::started(league_table::new(b)),
-        Operation::Check(league) => table_answers::checked(league_table::check(b, league)),
-        Operation::Entry { league, place } => table_answers::found(league_table::entry_at(
-            b, league, place,
-        )),
+        Operation::Check(league) => table_answers::counted(league_table::check(b, league)),
+        Operation::Entry { league, place } => {
+            table_answers::found(league_table::entry_at(b, league, place))
+        }
         Operation::Declare {
             league,
             field,
             code,
-        } => table_answers::changed(league_table::declare(b, league, field, code)),
-        Operation::Remove { league, field } => table_answers::changed(league_table::remove(
-            b, league, field,
-        )),
+        } => table_answers::counted(league_table::declare(b, league, field, code)),
+        Operation::Remove { league, field } => {
+            table_answers::counted(league_table::remove(b, league, field))
+        }
         Operation::Lookup {
             league,
             field,
             game,
             number,
         } => table_answers::looked(league_table::lookup(b, league, field, game, number)),
-        Operation::OldCheck => table_answers::checked(field_table::check(b)),
+        Operation::OldCheck => table_answers::counted(field_table::check(b)),
         Operation::OldLookup {
             field,
             game,
@@ -75,9 +76,9 @@ pub(crate) fn operate(b: &mut [u8], operation: Operation) -> Told
 }
 
 // Moves a table of version 1 into a target.
-pub(crate) fn move_table(from: &[u8], to: &mut [u8]) -> Told
+pub(crate) fn move_table(from: &[u8], to: &mut [u8]) -> Result<Told, Refusal>
     ensures result_value { told_as result ≡ (counted (moved_entries from.now to.old) then λ n. Gives (Number n)) }
     ensures to_after { to.new ≡ moved_buffer from.now to.old }
 {
-    table_answers::changed(moves::from_table(from, to))
+    table_answers::counted(moves::from_table(from, to))
 }

@@ -44,22 +44,6 @@ pub(crate) fn set(buffer: &mut [u8], setting: Setting) -> bool {
     }
 }
 
-// The buffer in use and the other one, as long as it.
-pub(crate) fn swap(here: &mut [u8], there: &mut [u8]) -> bool {
-    if here.len() != there.len() {
-        return false;
-    }
-    let mut i = 0;
-    while i < here.len() {
-        let byte = here[i];
-        let other = there[i];
-        here[i] = other;
-        there[i] = byte;
-        i += 1;
-    }
-    true
-}
-
 fn shares(
     buffer: &mut [u8],
     place: usize,
@@ -68,27 +52,19 @@ fn shares(
     count: usize,
     code: u8,
 ) -> bool {
-    if 65536 < count {
+    if 65536 < count || 65536 - count < first {
         return false;
     }
-    if 65536 - count < first {
+    if buffer.len() < 4 * count || buffer.len() - 4 * count < place {
         return false;
     }
-    if buffer.len() < 4 * count {
-        return false;
-    }
-    if buffer.len() - 4 * count < place {
-        return false;
-    }
-    let mut i = 0;
-    while i < count {
+    for i in 0..count {
         let field = first + i;
         let at = place + 4 * i;
         buffer[at] = league;
         buffer[at + 1] = (field / 256) as u8;
         buffer[at + 2] = (field % 256) as u8;
         buffer[at + 3] = code;
-        i += 1;
     }
     true
 }

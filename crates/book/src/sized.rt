@@ -9,18 +9,19 @@ use crate::{Record, slots};
 use frame::{Frame, HEAD_SIZE};
 use refusals::Refusal;
 
-// The frame of a book, and whether its records are plain, without field number and mark.
+// The frame of a book, and whether its records are plain, without field number and mark. A record has a kind's byte and a date's four.
 #[derive(Clone, Copy)]
 pub struct Format {
     pub frame: Frame,
     pub plain: bool,
+    pub ghost least: { least_size ≤ frame.size },
 }
 
 impl Format {
     // The place of the first of n records that is not sound, or n. Of a book that was checked: with `plain`, of the first that has a field
     // number or a mark.
     pub fn first_bad(self, b: &[u8], n: usize) -> usize
-        requires { (least_size ≤ self.frame.size) × (head_size + n * self.frame.size ≤ length b.now) }
+        requires { head_size + n * self.frame.size ≤ length b.now }
         ensures { result ≡ first_bad (sound_sized self.frame.size self.plain) (pieces n self.frame.size (drop head_size b.now)) }
     {
         for i in 0..n {
@@ -33,7 +34,6 @@ impl Format {
 
     // Whether the buffer starts with a book, and how many records it has.
     pub fn check_of(self, b: &[u8]) -> Result<usize, Refusal>
-        requires { (least_size ≤ self.frame.size) × (1 + self.frame.most * self.frame.size < 4294967296) }
         ensures { checked_as result ≡ check (book_of self.frame.size self.frame.most self.frame.version self.plain) b.now }
     {
         let n = self.frame.pieces_in(b)?;
@@ -47,7 +47,7 @@ impl Format {
     // The record at a place of a book that was checked: the most records and the version are those of that check. A checked book has no
     // bad record, so that refusal is never given here.
     pub fn entry_of(self, b: &[u8], place: usize) -> Result<Record, Refusal>
-        requires { (least_size ≤ self.frame.size) × (1 + self.frame.most * self.frame.size < 4294967296) × (given (check (book_of self.frame.size self.frame.most self.frame.version self.plain) b.now) ≡ true) }
+        requires { given (check (book_of self.frame.size self.frame.most self.frame.version self.plain) b.now) ≡ true }
         ensures { found_as result ≡ entry_at (book_of self.frame.size self.frame.most self.frame.version self.plain) b.now place }
     {
         let said = frame::length_said(b);
@@ -62,7 +62,6 @@ impl Format {
 
     // The record at a place of whatever the buffer holds.
     pub fn record_of(self, b: &[u8], place: usize) -> Result<Record, Refusal>
-        requires { (least_size ≤ self.frame.size) × (1 + self.frame.most * self.frame.size < 4294967296) }
         ensures { found_as result ≡ entry_at (book_of self.frame.size self.frame.most self.frame.version self.plain) b.now place }
     {
         self.check_of(b)?;
@@ -78,7 +77,11 @@ impl Format {
     {
         let size = piece.len();
         let format = Format {
-            frame: Frame { size, ..self.frame },
+            frame: Frame {
+                size,
+                most: self.frame.most,
+                version: self.frame.version,
+            },
             plain: self.plain,
         };
         let n = format.check_of(b)?;

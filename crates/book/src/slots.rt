@@ -35,7 +35,7 @@ fn field_at(b: &[u8], at: usize, size: usize) -> u16
 
 // The record whose bytes start at `at`.
 pub fn slot_at(b: &[u8], at: usize, format: Format) -> Option<Record>
-    requires { (least_size ≤ format.frame.size) × (at + format.frame.size ≤ length b.now) }
+    requires { at + format.frame.size ≤ length b.now }
     ensures { slot_as result ≡ entry_sized format.frame.size format.plain (take format.frame.size (drop at b.now)) }
 {
     let kind = codes::kind_of_code(b[at] as u32)?;
@@ -51,7 +51,7 @@ pub fn slot_at(b: &[u8], at: usize, format: Format) -> Option<Record>
 }
 
 pub fn sound_at(b: &[u8], at: usize, format: Format) -> bool
-    requires { (least_size ≤ format.frame.size) × (at + format.frame.size ≤ length b.now) }
+    requires { at + format.frame.size ≤ length b.now }
     ensures { result ≡ sound_sized format.frame.size format.plain (take format.frame.size (drop at b.now)) }
 {
     slot_at(b, at, format).is_some()

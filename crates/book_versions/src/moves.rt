@@ -85,8 +85,8 @@ pub fn to_1(from: &[u8], to: &mut [u8]) -> Result<usize, Refusal>
 {
     let n = second::check(from)?;
     let plain = Format {
+        frame: second::FORMAT.frame,
         plain: book::FORMAT.plain,
-        ..second::FORMAT
     };
     let more = plain.first_bad(from, n);
     if more < n {

@@ -16,12 +16,14 @@ pub const LENGTH_SIZE: usize = 4;
 // The bytes before the first piece: the length's and the version byte.
 pub const HEAD_SIZE: usize = LENGTH_SIZE + 1;
 
-// What a frame depends on: the bytes of a piece, the most pieces and the version byte.
+// What a frame depends on: the bytes of a piece, the most pieces and the version byte. The length of a full frame fits its four bytes.
 #[derive(Clone, Copy)]
 pub struct Frame {
     pub size: usize,
     pub most: usize,
     pub version: u8,
+    pub ghost some: { 0 < size },
+    pub ghost fits: { 1 + most * size < 4294967296 },
 }
 
 // The length that a frame says of itself.
@@ -42,7 +44,6 @@ pub fn put_length(b: &mut [u8], m: usize)
 impl Frame {
     // Whether the buffer starts with such a frame; and how many pieces it has.
     pub fn pieces_in(self, b: &[u8]) -> Result<usize, Refusal>
-        requires { (0 < self.size) × (1 + self.most * self.size < 4294967296) }
         ensures { framed_as result ≡ pieces_counted (frame_of self.size self.most self.version) b.now }
     {
         if b.len() < HEAD_SIZE {

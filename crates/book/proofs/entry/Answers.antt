@@ -5,7 +5,7 @@ use Rattle.book.proofs.Laws.{check-one, entry-one}
 use Rattle.book.proofs.entry.Goals as goal
 
 pub entry_of-requires : goal.entry_of-requires
-entry_of-requires c = (omega arith, omega arith, ap given (check-one c.args.b.now) ∙ c.requires)
+entry_of-requires c = ap given (check-one c.args.b.now) ∙ c.requires
 
 pub returns : goal.returns
 returns c = c.entry_of.ensures ∙ entry-one c.args.b.now c.args.place

@@ -15,7 +15,7 @@ returns-in_err-n c =
 
 pub first_bad-more-requires : goal.first_bad-more-requires
 first_bad-more-requires c =
-    (omega arith, ones-fit version2 version2-sensible c.args.from.now _ (sym c.in_ok-n.ensures))
+    ones-fit version2 version2-sensible c.args.from.now _ (sym c.in_ok-n.ensures)
 
 pub returns-then-more-n : goal.returns-then-more-n
 returns-then-more-n c =

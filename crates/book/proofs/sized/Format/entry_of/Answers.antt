@@ -8,37 +8,32 @@ use Rattle.book.proofs.sized.Format.entry_of.Goals as goal
 pub length_said-said-requires : goal.length_said-said-requires
 length_said-said-requires c =
     let f = c.args.self in
-    let p = c.requires in
-    let h = (head-stands f.frame.size f.frame.most f.frame.version f.plain p.0 p.1 c.args.b.now p.2).0 in omega arith
+    let h = (head-stands f.frame.size f.frame.most f.frame.version f.plain f.least f.frame.fits c.args.b.now c.requires).0 in omega arith
 
 pub overflow_sub-said : goal.overflow_sub-said
 overflow_sub-said c =
     let f = c.args.self in
-    let p = c.requires in
-    let h = (head-stands f.frame.size f.frame.most f.frame.version f.plain p.0 p.1 c.args.b.now p.2).1 in omega arith
+    let h = (head-stands f.frame.size f.frame.most f.frame.version f.plain f.least f.frame.fits c.args.b.now c.requires).1 in omega arith
 
 pub slot_at-requires : goal.slot_at-requires
 slot_at-requires c =
     let f = c.args.self in
-    let p = c.requires in
     let s = c.args.b.now in
     let l : c.args.place < (length_said s - 1) / f.frame.size = rw c.length_said-said.ensures at c.if-place-said.true in
-    (p.0, inside f.frame.size f.frame.most f.frame.version f.plain p.0 p.1 s p.2 c.args.place l)
+    inside f.frame.size f.frame.most f.frame.version f.plain f.least f.frame.fits s c.requires c.args.place l
 
 pub returns-then-place-said : goal.returns-then-place-said
 returns-then-place-said c =
     let f = c.args.self in
-    let p = c.requires in
     let s = c.args.b.now in
     let l : c.args.place < (length_said s - 1) / f.frame.size = rw c.length_said-said.ensures at c.if-place-said.true in
     ap found_as c.ok_or.ensures.value
-    ∙ found-or c.slot_at.result _ _ c.slot_at.ensures (sound_here f.frame.size f.frame.most f.frame.version f.plain p.0 p.1 s p.2 c.args.place l)
-    ∙ sym (entry_here f.frame.size f.frame.most f.frame.version f.plain p.0 p.1 s p.2 c.args.place l)
+    ∙ found-or c.slot_at.result _ _ c.slot_at.ensures (sound_here f.frame.size f.frame.most f.frame.version f.plain f.least f.frame.fits s c.requires c.args.place l)
+    ∙ sym (entry_here f.frame.size f.frame.most f.frame.version f.plain f.least f.frame.fits s c.requires c.args.place l)
 
 pub returns-else-place-said : goal.returns-else-place-said
 returns-else-place-said c =
     let f = c.args.self in
-    let p = c.requires in
     let s = c.args.b.now in
     let l : (length_said s - 1) / f.frame.size ≤ c.args.place = rw c.length_said-said.ensures at c.if-place-said.false in
-    sym (entry_past f.frame.size f.frame.most f.frame.version f.plain p.0 p.1 s p.2 c.args.place l)
+    sym (entry_past f.frame.size f.frame.most f.frame.version f.plain f.least f.frame.fits s c.requires c.args.place l)

@@ -8,12 +8,10 @@ use Rattle.book.proofs.sized.Format.record_of.Goals as goal
 
 pub entry_of-requires : goal.entry_of-requires
 entry_of-requires c =
-    let p = c.requires in
-    (p.0, p.1, ap given (sym c.in_ok-check_of.ensures))
+    ap given (sym c.in_ok-check_of.ensures)
 
 pub returns-in_err-check_of : goal.returns-in_err-check_of
 returns-in_err-check_of c =
     let f = c.args.self in
-    let p = c.requires in
     passed record_as _ _ c.from_residual.ensures
-    ∙ sym (entry-refused f.frame.size f.frame.most f.frame.version f.plain p.0 p.1 c.args.b.now _ (sym c.in_err-check_of.ensures) c.args.place)
+    ∙ sym (entry-refused f.frame.size f.frame.most f.frame.version f.plain f.least f.frame.fits c.args.b.now _ (sym c.in_err-check_of.ensures) c.args.place)

@@ -31,7 +31,7 @@ pub const FORMAT: Format = Format {
 };
 
 // The kind, the field number (0 for none, and in version 1) and the date of a record.
-#[derive(Clone, Copy)]
+#[derive(Clone, Copy, PartialEq, Eq)]
 pub struct Record {
     pub kind: Kind,
     pub field: u16,

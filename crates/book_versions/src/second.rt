@@ -27,6 +27,7 @@ pub const FORMAT: Format = Format {
     plain: false,
 };
 
+// Kept (point 2): (a) the documents name each version's calls; both versions' are calls of `Format`'s one function for each.
 // Whether the buffer starts with a book of version 2, and how many records it has.
 pub fn check(b: &[u8]) -> Result<usize, Refusal>
     ensures { checked_as result ≡ check version2 b.now }

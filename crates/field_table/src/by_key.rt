@@ -5,7 +5,7 @@ ghost use Rattle.rules.specs.Numbers.{guesses};
 ghost use Rattle.requests.specs.Entries.{standing};
 ghost use Rattle.requests.specs.FieldTable.{key_in, declared_by, in_order, look_by};
 ghost use Rattle.kinds.specs.Views.{kind_of};
-ghost use Rattle.field_table.specs.Search.{widest, Room, entries_in};
+ghost use Rattle.field_table.specs.Search.{Room, entries_in};
 ghost use Rattle.field_table.specs.Views.{entry_as, in_bits, looked_as};
 
 use crate::sized::Format;
@@ -16,7 +16,7 @@ use refusals::Refusal;
 
 // What the entry that starts at `at` declares, by its key; one of a table that was checked declares a field.
 pub fn declared_at(b: &[u8], at: usize, format: Format) -> Result<Entry, Refusal>
-    requires key_size_in_bounds { (at + (format.key_size + 1) ≤ length b.now) × (format.key_size ≤ widest) }
+    requires key_size_in_bounds { at + (format.key_size + 1) ≤ length b.now }
     requires b_value { given (declared_by format.key_size (take (format.key_size + 1) (drop at b.now))) ≡ true }
     ensures { entry_as result ≡ declared_by format.key_size (take (format.key_size + 1) (drop at b.now)) }
 {

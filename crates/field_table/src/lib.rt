@@ -35,14 +35,14 @@ pub const FORMAT: Format = Format {
 const SIZE: usize = KEY_SIZE + 1;
 
 // What an entry declares.
-#[derive(Clone, Copy)]
+#[derive(Clone, Copy, PartialEq, Eq)]
 pub struct Entry {
     pub field: u32,
     pub kind: Kind,
 }
 
 // The date of a number and the kind that was used: the field's own, or the game's, whose guess it was and by which the date is marked.
-#[derive(Clone, Copy)]
+#[derive(Clone, Copy, PartialEq, Eq)]
 pub enum Looked {
     Declared { kind: Kind, date: Packed },
     Guessed { kind: Kind, date: Packed },

@@ -11,18 +11,21 @@ use crate::allowed;
 use frame::{Frame, HEAD_SIZE};
 use refusals::Refusal;
 
-// The bytes of a key, the most entries and the version byte of a table.
+// The bytes of a key, the most entries and the version byte of a table. The length of a full table fits its four bytes.
 #[derive(Clone, Copy)]
 pub struct Format {
     pub key_size: usize,
     pub most: usize,
     pub version: u8,
+    pub ghost narrow: { key_size ≤ widest },
+    pub ghost fits: { 1 + most * (key_size + 1) < 4294967296 },
 }
 
+// Kept (point 5): (d) `declare` and `remove` ask for n ordered entries of bytes that they change: a struct of both would be made for a call.
 impl Format {
     // The key of the entry that starts at `at`, the largest byte first.
     pub fn key_at(self, b: &[u8], at: usize) -> usize
-        requires { (at + (self.key_size + 1) ≤ length b.now) × (self.key_size ≤ widest) }
+        requires { at + (self.key_size + 1) ≤ length b.now }
         ensures value { result ≡ key_in self.key_size (take (self.key_size + 1) (drop at b.now)) }
         ensures upper_bound { result < 256 ^ self.key_size }
     {
@@ -52,7 +55,6 @@ impl Format {
 
     // Whether the buffer starts with a table, and how many entries it has.
     pub fn check_of(self, b: &[u8]) -> Result<usize, Refusal>
-        requires { (self.key_size ≤ widest) × (1 + self.most * (self.key_size + 1) < 4294967296) }
         ensures { checked_as result ≡ check (table_of self.key_size self.most self.version) b.now }
     {
         let frame = Frame {
@@ -105,7 +107,7 @@ impl Format {
     pub fn declare(self, b: &mut [u8], n: usize, entry: &[u8]) -> Result<usize, Refusal>
         requires room { Room self.key_size n (length b.old) }
         requires b_value { ascends (key_in self.key_size) 0 (entries_in self.key_size n b.old) ≡ true }
-        requires len { (length entry.now ≡ self.key_size + 1) × (n ≤ self.most) × (1 + self.most * (self.key_size + 1) < 4294967296) }
+        requires len { (length entry.now ≡ self.key_size + 1) × (n ≤ self.most) }
         ensures result_value { changed_as result ≡ counted (declare_in (table_of self.key_size self.most (version_of b.old)) b.old (entries_in self.key_size n b.old) entry.now) }
         ensures b_after { b.new ≡ table_buffer (table_of self.key_size self.most (version_of b.old)) 0 (declare_in (table_of self.key_size self.most (version_of b.old)) b.old (entries_in self.key_size n b.old) entry.now) b.old }
     {

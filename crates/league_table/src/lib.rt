@@ -58,7 +58,7 @@ fn entries_of(b: &[u8]) -> Result<usize, Refusal>
 }
 
 // ---- a table of n entries that was checked
-// Kept (point 5): (d) the bytes change under a declaration and a removal, so a struct with this fact for its invariant would not outlive one.
+// Kept (point 5): (d) a declaration and a removal change the bytes, so a struct with this fact for its invariant would not outlive one.
 
 // How many are the league's.
 fn count_own(b: &[u8], n: usize, league: u32) -> Result<usize, Refusal>

@@ -17,6 +17,7 @@ const LAST_FIELD: u32 = 65535;
 
 const FIELDS: u32 = 65536;
 
+// Kept (point 5): (d) n ordered entries are asked for here as in `field_table::sized`, of bytes that its callers then change.
 // How many entries stand before the league's.
 pub fn start(b: &[u8], n: usize, league: u32) -> usize
     requires room { Room 3 n (length b.now) }

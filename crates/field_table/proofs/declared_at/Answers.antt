@@ -16,7 +16,7 @@ pub declared_at-requires : goal.declared_at-requires
 declared_at-requires c =
     let a = c.args in
     record {
-      key_size_in_bounds = (inside (room a.b.now (sym c.entries_in.ensures)) a.place c.if-place-entries_in.true, omega arith);
+      key_size_in_bounds = inside (room a.b.now (sym c.entries_in.ensures)) a.place c.if-place-entries_in.true;
       b_value = it-declares a.b.now (sym c.entries_in.ensures) a.place c.if-place-entries_in.true;
     }
 

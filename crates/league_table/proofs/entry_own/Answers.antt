@@ -44,7 +44,7 @@ pub declared_at-requires : goal.declared_at-requires
 declared_at-requires c =
     let a = c.args in
     record {
-      key_size_in_bounds = (omega (arith, (room a.b.now a.n c.requires).fits, c.start.ensures, inside a.b.now a.n c.requires a.league a.place (sym c.is_league.ensures ∙ c.if-not-is_league.false) (omega (arith, c.count.ensures, c.if-count-place.false))), omega arith);
+      key_size_in_bounds = omega (arith, (room a.b.now a.n c.requires).fits, c.start.ensures, inside a.b.now a.n c.requires a.league a.place (sym c.is_league.ensures ∙ c.if-not-is_league.false) (omega (arith, c.count.ensures, c.if-count-place.false)));
       b_value = rw c.start.ensures (it-declares a.b.now a.n c.requires a.league a.place (sym c.is_league.ensures ∙ c.if-not-is_league.false) (omega (arith, c.count.ensures, c.if-count-place.false)));
     }
 

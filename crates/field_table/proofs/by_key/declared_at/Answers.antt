@@ -6,7 +6,7 @@ use Rattle.field_table.proofs.ByKey.{key_fits, entry_here, entry-none}
 use Rattle.field_table.proofs.by_key.declared_at.Goals as goal
 
 pub overflow_cast-field : goal.overflow_cast-field
-overflow_cast-field c = omega (arith, key_fits c.args.format.key_size _ c.requires.key_size_in_bounds.1 c.key_at-field.ensures.upper_bound)
+overflow_cast-field c = omega (arith, key_fits c.args.format.key_size _ c.args.format.narrow c.key_at-field.ensures.upper_bound)
 
 pub returns-in_err-kind : goal.returns-in_err-kind
 returns-in_err-kind c =

@@ -19,20 +19,20 @@ in_order-requires c =
     let f = c.args.self in
     let t = table_of f.key_size f.most f.version in
     record {
-      fits = count_fits (table_frame t) (sensible-table t c.requires.1) c.args.b.now _ (sym (counted_is (table_frame t) c.args.b.now) ∙ sym c.in_ok-n.ensures);
-      narrow = c.requires.0;
+      fits = count_fits (table_frame t) (sensible-table t f.fits) c.args.b.now _ (sym (counted_is (table_frame t) c.args.b.now) ∙ sym c.in_ok-n.ensures);
+      narrow = f.narrow;
     }
 
 pub returns-then-not-in_order : goal.returns-then-not-in_order
 returns-then-not-in_order c =
     let f = c.args.self in
     let t = table_of f.key_size f.most f.version in
-    sym (out_of_order t (sensible-table t c.requires.1) c.args.b.now _ (sym (counted_is (table_frame t) c.args.b.now) ∙ sym c.in_ok-n.ensures)
+    sym (out_of_order t (sensible-table t f.fits) c.args.b.now _ (sym (counted_is (table_frame t) c.args.b.now) ∙ sym c.in_ok-n.ensures)
     (sym c.if-not-in_order.true ∙ c.in_order.ensures))
 
 pub returns : goal.returns
 returns c =
     let f = c.args.self in
     let t = table_of f.key_size f.most f.version in
-    sym (in_order_lem t (sensible-table t c.requires.1) c.args.b.now _ (sym (counted_is (table_frame t) c.args.b.now) ∙ sym c.in_ok-n.ensures)
+    sym (in_order_lem t (sensible-table t f.fits) c.args.b.now _ (sym (counted_is (table_frame t) c.args.b.now) ∙ sym c.in_ok-n.ensures)
     (sym c.if-not-in_order.false ∙ c.in_order.ensures))

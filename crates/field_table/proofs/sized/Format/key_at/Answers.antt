@@ -12,6 +12,15 @@ loop-byte-init c = (refl, omega arith)
 pub overflow_mul-key : goal.overflow_mul-key
 overflow_mul-key c = omega (arith, power_small c.loop-byte.byte-index (omega arith))
 
+pub overflow_add-key : goal.overflow_add-key
+overflow_add-key c =
+    let a = c.args in
+    let i = c.loop-byte.byte-index in
+    let n = a.at + a.self.key_size - a.at in
+    let byte : slice_index_or (take n (drop a.at a.b.now)) i 0 ≡ slice_index_or a.b.now (a.at + i) 0 =
+    get_or-take n (drop a.at a.b.now) i 0 (omega arith) ∙ get_or-drop a.at a.b.now i 0 in
+    omega (arith, power_small i (omega arith), byte, c.type_inv.b (a.at + i))
+
 pub loop-byte-preserved : goal.loop-byte-preserved
 loop-byte-preserved c =
     let l = c.loop-byte in

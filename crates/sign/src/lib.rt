@@ -1,7 +1,8 @@
 // Signed numbers as two naturals and back: the arithmetic of years and numbers is done on the halves.
 #![tactic(auto)]
 
-ghost use Rattle.std.specs.Prelude.{◌≡◌, ◌+◌, ◌≤◌};
+ghost use Rattle.std.specs.Prelude.{◌≡◌, ℕ, ℤ, ◌+◌, ◌≤◌};
+ghost use Rattle.std.proofs.Common.{rules};
 ghost use Rattle.std.proofs.Math.IntN.{sub_ℕ};
 ghost use Rattle.sign.specs.Halves.{up, dn, Halved};
 
@@ -12,103 +13,93 @@ pub struct Halves {
     pub dn: u64,
 }
 
-pub fn halves16(x: i16) -> Halves
-    ensures { Halved 32767 x result.up result.dn }
-{
-    if x < 0 {
-        // !x is -x - 1, which fits also where x is the least number
-        Halves {
-            up: 0,
-            dn: (!x) as u64 + 1,
-        }
-    } else {
-        Halves {
-            up: x as u64,
-            dn: 0,
-        }
+// A signed type whose numbers fit 64 bits: `top` is its greatest, and its least is one further from 0.
+pub trait Signed {
+    ghost top: { ℕ };
+
+    ghost value: { Self → ℤ };
+
+    fn wide(self) -> i64
+        ensures value { result ≡ value self }
+        ensures fits { (up result ≤ top) × (dn result ≤ top + 1) };
+
+    // The same number in this type, where it fits.
+    fn narrow(x: i64) -> Self
+        requires { (up x ≤ top) × (dn x ≤ top + 1) }
+        ensures { value result ≡ x };
+
+    ghost held: { top ≤ 9223372036854775807 };
+}
+
+impl Signed for i16 {
+    ghost top = { 32767 };
+
+    ghost value = { λ x. x };
+
+    ghost held = { Prim.search rules };
+
+    fn wide(self) -> i64 {
+        i64::from(self)
+    }
+
+    fn narrow(x: i64) -> Self {
+        x as i16
     }
 }
 
-pub fn halves32(x: i32) -> Halves
-    ensures { Halved 2147483647 x result.up result.dn }
-{
-    if x < 0 {
-        Halves {
-            up: 0,
-            dn: (!x) as u64 + 1,
-        }
-    } else {
-        Halves {
-            up: x as u64,
-            dn: 0,
-        }
+impl Signed for i32 {
+    ghost top = { 2147483647 };
+
+    ghost value = { λ x. x };
+
+    ghost held = { Prim.search rules };
+
+    fn wide(self) -> i64 {
+        i64::from(self)
+    }
+
+    fn narrow(x: i64) -> Self {
+        x as i32
     }
 }
 
-pub fn halves64(x: i64) -> Halves
-    ensures { Halved 9223372036854775807 x result.up result.dn }
-{
-    if x < 0 {
-        Halves {
-            up: 0,
-            dn: (!x) as u64 + 1,
-        }
-    } else {
-        Halves {
-            up: x as u64,
-            dn: 0,
-        }
+impl Signed for i64 {
+    ghost top = { 9223372036854775807 };
+
+    ghost value = { λ x. x };
+
+    ghost held = { Prim.search rules };
+
+    fn wide(self) -> i64 {
+        self
+    }
+
+    fn narrow(x: i64) -> Self {
+        x
     }
 }
 
-// u - d, where it fits 16 bits.
-pub fn int16(u: u64, d: u64) -> i16
-    requires { (u ≤ d + 32767) × (d ≤ u + 32768) }
-    ensures { result ≡ sub_ℕ u d }
+pub fn halved<T: Signed>(x: T) -> Halves
+    ensures { Halved T.top (T.value x) result.up result.dn }
 {
-    if u < d {
-        !((d - u - 1) as i16)
+    let wide = x.wide();
+    let size = wide.unsigned_abs();
+    if wide < 0 {
+        Halves { up: 0, dn: size }
     } else {
-        (u - d) as i16
+        Halves { up: size, dn: 0 }
     }
 }
 
-// u - d, where it fits 32 bits.
-pub fn int32(u: u64, d: u64) -> i32
-    requires { (u ≤ d + 2147483647) × (d ≤ u + 2147483648) }
-    ensures { result ≡ sub_ℕ u d }
+// u - d, where it fits.
+pub fn int<T: Signed>(u: u64, d: u64) -> T
+    requires { (u ≤ d + T.top) × (d ≤ u + (T.top + 1)) }
+    ensures { T.value result ≡ sub_ℕ u d }
 {
-    if u < d {
-        !((d - u - 1) as i32)
-    } else {
-        (u - d) as i32
-    }
-}
-
-// u - d, where it fits 64 bits.
-pub fn int64(u: u64, d: u64) -> i64
-    requires { (u ≤ d + 9223372036854775807) × (d ≤ u + 9223372036854775808) }
-    ensures { result ≡ sub_ℕ u d }
-{
-    if u < d {
+    let wide = if u < d {
         !((d - u - 1) as i64)
     } else {
         (u - d) as i64
-    }
-}
-
-// The same number in 16 bits, where it fits.
-pub fn narrow16(x: i64) -> i16
-    requires { (up x ≤ 32767) × (dn x ≤ 32768) }
-    ensures { result ≡ x }
-{
-    x as i16
-}
-
-// The same number in 32 bits, where it fits.
-pub fn narrow32(x: i64) -> i32
-    requires { (up x ≤ 2147483647) × (dn x ≤ 2147483648) }
-    ensures { result ≡ x }
-{
-    x as i32
+    };
+    T::narrow(wide)
 }

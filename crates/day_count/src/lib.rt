@@ -50,7 +50,7 @@ fn day_number(year: i16, doy: u16) -> Halves
     requires { doy < 365 }
     ensures { Halved 11960683 (day_number_at year doy) result.up result.dn }
 {
-    let h = sign::halves16(year);
+    let h = sign::halved(year);
     let u = h.up;
     let d = h.dn;
     let e = doy as u64;
@@ -81,7 +81,7 @@ fn date_of(up: u64, dn: u64, hour: u8, mark: u16) -> Packed
     requires { (up - dn ≡ up) × (up ≤ 11960319) × (dn ≤ 11960684) × (hour < 32) × (mark < 4) }
     ensures { bits_of result ≡ stored_with mark (day_fields (sub_ℕ up dn) hour) }
 {
-    let year = sign::int16(up / 365, dn / 365);
+    let year = sign::int::<i16>(up / 365, dn / 365);
     let doy = ((up + dn) % 365) as u16;
     let on = julian::month_day_from_julian(doy);
     let fields = ExpandedRawDate {
@@ -134,7 +134,7 @@ fn moved(date: ExpandedRawDate, days: i32, hour: u8, mark: u16) -> Result<Packed
     let n = number_of(date);
     let nu = n.up;
     let nd = n.dn;
-    let m = sign::halves32(days);
+    let m = sign::halved(days);
     let mu = m.up;
     let md = m.dn;
     date_at(nu + mu, nd + md, hour, mark)
@@ -164,7 +164,7 @@ fn between(first: ExpandedRawDate, second: ExpandedRawDate) -> i32
     let m = number_of(second);
     let mu = m.up;
     let md = m.dn;
-    sign::int32(mu + nd, md + nu)
+    sign::int::<i32>(mu + nd, md + nu)
 }
 
 // The days from the first date to the second, whatever their hours.

@@ -52,7 +52,7 @@ fn filled_year(year: i16, above: usize, below: usize) -> Year
     ensures result_value { year_text result ≡ filled_year above below year }
     ensures digits_bound { result.digits ≤ 5 }
 {
-    let h = sign::halves16(year);
+    let h = sign::halved(year);
     if 0 < h.dn {
         return signed(Some(MINUS), h.dn, below);
     }
@@ -80,7 +80,7 @@ pub(crate) fn exchange_year(year: i16) -> Year
     ensures result_value { year_text result ≡ exchange_year year }
     ensures digits_bound { result.digits ≤ 5 }
 {
-    let h = sign::halves16(year);
+    let h = sign::halved(year);
     if LAST_UNSIGNED < h.up {
         return signed(Some(PLUS), h.up, 5);
     }

@@ -50,7 +50,7 @@ fn number_of(kind: Kind, date: ExpandedRawDate) -> Halves
 {
     let doy = julian::day_of_year(date.month, date.day);
     let hour = date.hour - first_hour(kind);
-    sign::halves32(julian::to_binary(date.year, doy, hour))
+    sign::halved(julian::to_binary(date.year, doy, hour))
 }
 
 // The date so many hours after the first hour of year -32768, with this mark.
@@ -58,7 +58,7 @@ fn date_after(kind: Kind, hours: u64, mark: u16) -> Packed
     requires { (hours ≤ 574095359) × (mark < 4) }
     ensures { bits_of result ≡ stored_with mark (hours_after (kind_of kind) hours) }
 {
-    let year = sign::int16(hours / 8760, 32768);
+    let year = sign::int::<i16>(hours / 8760, 32768);
     let on = julian::month_day_from_julian((hours / 24 % 365) as u16);
     let fields = ExpandedRawDate {
         year,
@@ -92,7 +92,7 @@ fn moved(
     let n = number_of(kind, date);
     let nu = n.up;
     let nd = n.dn;
-    let m = sign::halves32(count);
+    let m = sign::halved(count);
     let mu = m.up;
     let md = m.dn;
     date_at(kind, nu + block * mu, nd + block * md, mark)
@@ -124,9 +124,9 @@ fn between(kind: Kind, block: u64, first: ExpandedRawDate, second: ExpandedRawDa
     let up = mu + nd;
     let dn = md + nu;
     if up < dn {
-        sign::int32(0, (dn - up) / block)
+        sign::int::<i32>(0, (dn - up) / block)
     } else {
-        sign::int32((up - dn) / block, 0)
+        sign::int::<i32>((up - dn) / block, 0)
     }
 }
 

@@ -77,7 +77,7 @@ pub fn day_of_year(month: u8, day: u8) -> u16
 pub fn to_binary(year: i16, day_of_year: u16, hour: u8) -> i32
     ensures { result ≡ straight_at year day_of_year hour }
 {
-    let Halves { up, dn } = sign::halves16(year);
+    let Halves { up, dn } = sign::halved(year);
     let above = ((up + 5000) * 365 + u64::from(day_of_year)) * 24 + u64::from(hour);
-    sign::int32(above, dn * 8760)
+    sign::int::<i32>(above, dn * 8760)
 }

@@ -30,7 +30,7 @@ pub fn number_fields(s: i32) -> Option<ExpandedRawDate>
     ensures by_index { (n : ℕ) → numbered_as n result ≡ number_fields n s }
     ensures result_bound { hour_in result < 24 }
 {
-    let h = sign::halves32(s);
+    let h = sign::halved(s);
     let u = h.up;
     let d = h.dn;
     if 0 < d {
@@ -41,7 +41,7 @@ pub fn number_fields(s: i32) -> Option<ExpandedRawDate>
             return None;
         }
         return Some(ExpandedRawDate {
-            year: sign::int16(0, d / 8760 + 5000),
+            year: sign::int::<i16>(0, d / 8760 + 5000),
             month: 1,
             day: 1,
             hour: 0,
@@ -52,7 +52,7 @@ pub fn number_fields(s: i32) -> Option<ExpandedRawDate>
     }
     let on = julian::month_day_from_julian((u / 24 % 365) as u16);
     Some(ExpandedRawDate {
-        year: sign::int16(u / 8760, 5000),
+        year: sign::int::<i16>(u / 8760, 5000),
         month: on.month,
         day: on.day,
         hour: (u % 24) as u8,

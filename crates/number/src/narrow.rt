@@ -20,7 +20,7 @@ const YEAR_1: u64 = 43_808_760;
 pub(crate) fn is_early(s: i32) -> bool
     ensures { result ≡ ltb (up s) 42932760 }
 {
-    let h = sign::halves32(s);
+    let h = sign::halved(s);
     let u = h.up;
     u < YEAR_99_BEFORE
 }
@@ -30,7 +30,7 @@ pub(crate) fn may_pass(kind: Kind, s: i32) -> bool
     requires { guesses (kind_of kind) ≡ true }
     ensures { result ≡ false → guess_number (kind_of kind) s ≡ Refused not_number }
 {
-    let h = sign::halves32(s);
+    let h = sign::halved(s);
     let u = h.up;
     match kind {
         Kind::Raw | Kind::Uniform => true,

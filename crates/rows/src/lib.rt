@@ -152,7 +152,7 @@ pub fn whole32(s: &[u8], at: usize) -> Whole
     let Number { up, dn, next } = signed(s, at);
     if up <= 2147483647 && dn <= 2147483648 {
         Whole {
-            value: sign::int32(up, dn),
+            value: sign::int::<i32>(up, dn),
             next,
         }
     } else {

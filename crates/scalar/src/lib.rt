@@ -58,9 +58,9 @@ fn number_from(s: &[u8], negative: bool, start: u64) -> Option<Leading>
 {
     let Partial { value, next } = to_u64_partial(s, 1, start)?;
     let value = if negative {
-        sign::int64(0, value)
+        sign::int::<i64>(0, value)
     } else {
-        sign::int64(value, 0)
+        sign::int::<i64>(value, 0)
     };
     Some(Leading { value, next })
 }

@@ -27,7 +27,7 @@ pack-requires c κs = (omega (arith, c.requires.4), omega (arith, small c), omeg
 returns : tie.Need-returns
 returns c =
     let t = c in
-    let y = held w16 t.int16-year.type_inv ∙ t.int16-year.ensures in
+    let y = held w16 t.int-year.type_inv ∙ t.int-year.ensures in
     c.pack.ensures
     ∙ ap (stored_with t.args.mark) (date-is _ _ t.requires.0 _ y t.month_day_from_julian-on.ensures.0 t.month_day_from_julian-on.ensures.1)
 

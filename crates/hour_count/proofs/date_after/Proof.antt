@@ -28,7 +28,7 @@ pack-requires c κs =
 returns : tie.Need-returns
 returns c =
     let a = c.args in
-    let y = held w16 c.int16-year.type_inv ∙ c.int16-year.ensures in
+    let y = held w16 c.int-year.type_inv ∙ c.int-year.ensures in
     let on = c.month_day_from_julian-on.ensures in
     c.pack.ensures
     ∙ ap (stored_with a.mark)

@@ -9,11 +9,11 @@ use Rattle.hour_count.proofs.moved.Statement.{statement}
 use Rattle.hour_count.proofs.moved.Tie as tie
 
 -- the hours of the blocks, each way, are far below 2^36
-hours : (c : tie.After-halves32-m) → let b = c.args.block in
-    (b * c.halves32-m.result.up ≤ 51539607528) × (b * c.halves32-m.result.dn ≤ 51539607552)
+hours : (c : tie.After-halved-m) → let b = c.args.block in
+    (b * c.halved-m.result.up ≤ 51539607528) × (b * c.halved-m.result.dn ≤ 51539607552)
 hours c =
-    let p = c.requires.1 in let u = mul-le-mul_right c.halves32-m.result.up p in let d = mul-le-mul_right c.halves32-m.result.dn p in
-    let h = c.halves32-m.ensures in (omega arith, omega arith)
+    let p = c.requires.1 in let u = mul-le-mul_right c.halved-m.result.up p in let d = mul-le-mul_right c.halved-m.result.dn p in
+    let h = c.halved-m.ensures in (omega arith, omega arith)
 
 mul-date_at : tie.Need-overflow_mul-block
 mul-date_at c = omega (arith, (hours c).0)
@@ -33,7 +33,7 @@ date_at-requires c κs =
 
 returns : tie.Need-returns
 returns c =
-    let m = rw (to_z-of_z c.ranges.count) at c.halves32-m.ensures in
+    let m = rw (to_z-of_z c.ranges.count) at c.halved-m.ensures in
     rw (sum_is c.args.block c.number_of-n.ensures m) at c.date_at.ensures
 
 pub moved_spec : {M : Type 1} → statement M

@@ -24,7 +24,7 @@ returns c =
     let n = held w32 c.to_binary.type_inv ∙ c.to_binary.ensures in
     let high : up year ≤ 32767 = omega (arith, b.up-less) in
     in_halves (straight-in year _ _ b.dn-most high (rw d.0 at d.1) c.requires.2)
-    (rw (n, y, d.0, c.first_hour.ensures) at c.halves32.ensures)
+    (rw (n, y, d.0, c.first_hour.ensures) at c.halved.ensures)
 
 pub number_of_spec : {M : Type 1} → statement M
 number_of_spec =

@@ -12,8 +12,8 @@ use Rattle.number.proofs.Laws.{none, some, below}
 use Rattle.number.proofs.number_fields.Statement.{statement}
 use Rattle.number.proofs.number_fields.Tie as tie
 
-got : (c : tie.After-halves32-h) → Halved 2147483647 c.args.s c.halves32-h.result.up c.halves32-h.result.dn
-got c = rw (to_z-of_z c.ranges.s) at c.halves32-h.ensures
+got : (c : tie.After-halved-h) → Halved 2147483647 c.args.s c.halved-h.result.up c.halved-h.result.dn
+got c = rw (to_z-of_z c.ranges.s) at c.halved-h.ensures
 
 returns : tie.Need-returns-then-d-gt0-2
 returns c = (λ n. none n (got c.before.before) (λ t. omega arith), omega arith)
@@ -24,7 +24,7 @@ returns-2 c = (λ n. none n (got c.before.before.before) (λ t. omega (arith, (g
 returns-3 : tie.Need-returns-then-d-gt0
 returns-3 c =
     let g = got c.before.before.before.before in
-    (λ n. below n g c.if-d-gt0.true (record { hour = omega arith; day = omega arith; low = omega arith; high = omega (arith, g.one) }) (held w16 c.int16.type_inv ∙ c.int16.ensures), omega arith)
+    (λ n. below n g c.if-d-gt0.true (record { hour = omega arith; day = omega arith; low = omega arith; high = omega (arith, g.one) }) (held w16 c.int.type_inv ∙ c.int.ensures), omega arith)
 
 returns-4 : tie.Need-returns-then-u-gt-GREATEST
 returns-4 c = (λ n. none n (got c.before.before) (λ t. omega arith), omega arith)
@@ -33,9 +33,9 @@ returns-5 : tie.Need-returns
 returns-5 c =
     let k = c in
     let g = got c.before.before.before.before in
-    let none-down : k.halves32-h.result.dn ≡ 0 = omega arith in
-    let year : sub_ℕ (k.halves32-h.result.up / 8760) 5000 ≡ sub_ℕ (k.halves32-h.result.up / 8760) (k.halves32-h.result.dn / 8760 + 5000) = rw none-down in
-    (λ n. some n g (record { hour = omega arith; day = omega arith; low = omega arith; high = omega arith }) (held w16 c.int16-2.type_inv ∙ (c.int16-2.ensures ∙ year)) c.month_day_from_julian-on.ensures.0 c.month_day_from_julian-on.ensures.1, omega arith)
+    let none-down : k.halved-h.result.dn ≡ 0 = omega arith in
+    let year : sub_ℕ (k.halved-h.result.up / 8760) 5000 ≡ sub_ℕ (k.halved-h.result.up / 8760) (k.halved-h.result.dn / 8760 + 5000) = rw none-down in
+    (λ n. some n g (record { hour = omega arith; day = omega arith; low = omega arith; high = omega arith }) (held w16 c.int-2.type_inv ∙ (c.int-2.ensures ∙ year)) c.month_day_from_julian-on.ensures.0 c.month_day_from_julian-on.ensures.1, omega arith)
 
 pub number_fields_spec : {M : Type 1} → statement M
 number_fields_spec =

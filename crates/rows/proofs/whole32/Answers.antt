@@ -12,7 +12,7 @@ use Rattle.rows.proofs.whole32.Goals.{else-up-le2147483647-via-then-up-le2147483
 pub returns-then-dn-le2147483648 : goal.returns-then-dn-le2147483648
 unfolding whole_of
 returns-then-dn-le2147483648 c =
-    rw (← c.signed-up.ensures, le-leb _ _ c.if-up-le2147483647.true, le-leb _ _ c.if-dn-le2147483648.true) (read_of _ (held w32 c.int32.type_inv ∙ c.int32.ensures))
+    rw (← c.signed-up.ensures, le-leb _ _ c.if-up-le2147483647.true, le-leb _ _ c.if-dn-le2147483648.true) (read_of _ (held w32 c.int.type_inv ∙ c.int.ensures))
 
 pub returns-else-up-le2147483647 : goal.returns-else-up-le2147483647
 unfolding whole_of

@@ -18,9 +18,9 @@ returns-in_err-value-clause-result_value c =
 pub returns-then-negative-clause-result_value : goal.returns-then-negative-clause-result_value
 unfolding number_of
 returns-then-negative-clause-result_value c =
-    rw (c.if-negative.true, ← c.in_ok-value.ensures.result_value) (given _ (held w64 c.int64-value.type_inv ∙ c.int64-value.ensures ∙ sub-below _))
+    rw (c.if-negative.true, ← c.in_ok-value.ensures.result_value) (given _ (held w64 c.int-value.type_inv ∙ c.int-value.ensures ∙ sub-below _))
 
 pub returns-else-negative-clause-result_value : goal.returns-else-negative-clause-result_value
 unfolding number_of
 returns-else-negative-clause-result_value c =
-    rw (c.if-negative.false, ← c.in_ok-value.ensures.result_value) (given _ (held w64 c.int64-value-else-negative.type_inv ∙ c.int64-value-else-negative.ensures ∙ sub-above _))
+    rw (c.if-negative.false, ← c.in_ok-value.ensures.result_value) (given _ (held w64 c.int-value-else-negative.type_inv ∙ c.int-value-else-negative.ensures ∙ sub-above _))

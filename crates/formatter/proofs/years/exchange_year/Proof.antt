@@ -8,8 +8,8 @@ use Rattle.formatter.proofs.PieceLaws.{exchange-filled, exchange-plus}
 use Rattle.formatter.proofs.years.exchange_year.Statement.{statement}
 use Rattle.formatter.proofs.years.exchange_year.Tie as tie
 
-got : (c : tie.After-halves16-h) → Halved 32767 c.args.year c.halves16-h.result.up c.halves16-h.result.dn
-got c = rw (to_z-of_z c.ranges.year) at c.halves16-h.ensures
+got : (c : tie.After-halved-h) → Halved 32767 c.args.year c.halved-h.result.up c.halved-h.result.dn
+got c = rw (to_z-of_z c.ranges.year) at c.halved-h.ensures
 
 returns : tie.Need-returns-then-h-gt-LAST_UNSIGNED
 returns c =

@@ -105,7 +105,7 @@ fn listed<W: Write>(out: &mut W, numbers: &[i64]) -> io::Result<()> {
         if 0 < i {
             telling::print(out, b" ")?;
         }
-        telling::signed(out, sign::halves64(*n))?;
+        telling::signed(out, sign::halved(*n))?;
     }
     Ok(())
 }

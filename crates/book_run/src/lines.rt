@@ -207,7 +207,7 @@ pub(crate) fn date_by(up: u64, dn: u64, word: u64) -> Dated {
         if dn <= 32768 {
             if word <= 65535 {
                 return Dated::Date(Packed {
-                    year: sign::int16(up, dn),
+                    year: sign::int::<i16>(up, dn),
                     word: word as u16,
                 });
             }

@@ -193,7 +193,7 @@ fn field_record<W: Write>(out: &mut W, kind: Kind, field: u16, date: Packed) -> 
 }
 
 fn year_and_word<W: Write>(out: &mut W, date: Packed) -> io::Result<()> {
-    signed(out, sign::halves16(date.year))?;
+    signed(out, sign::halved(date.year))?;
     print(out, b" ")?;
     number(out, word_of(date.word))
 }

@@ -62,7 +62,7 @@ pub(crate) fn ordinal(month: u8) -> LeafTold
     let FirstDay::Day(first) = julian::julian_ordinal_day(month) else {
         return LeafTold::NoMonth;
     };
-    LeafTold::Number(sign::int32(first as u64, 1))
+    LeafTold::Number(sign::int::<i32>(first as u64, 1))
 }
 
 // The original takes the hour from 1 and lowers it, 0 excepted; ours takes it from 0.

@@ -34,7 +34,7 @@ pub(crate) fn year(row: &[u8], at: usize) -> ReadYear {
     if up <= 32767 {
         if dn <= 32768 {
             return ReadYear {
-                value: sign::int16(up, dn),
+                value: sign::int::<i16>(up, dn),
                 next: n.next,
             };
         }

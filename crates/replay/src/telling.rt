@@ -55,7 +55,7 @@ pub(crate) fn tell<W: Write>(out: &mut W, row: &[u8], kind: Kind, told: Told) ->
     question(out, row)?;
     match told {
         Told::Date(date) => dated(out, kind, date)?,
-        Told::Number(n) => signed(out, sign::halves32(n))?,
+        Told::Number(n) => signed(out, sign::halved(n))?,
         Told::Refused(n) => refused(out, n)?,
         Told::Unasked => print(out, b" = unread")?,
     }
@@ -72,7 +72,7 @@ fn dated<W: Write>(out: &mut W, kind: Kind, date: Packed) -> io::Result<()> {
 }
 
 fn fields<W: Write>(out: &mut W, f: ExpandedRawDate) -> io::Result<()> {
-    signed(out, sign::halves16(f.year))?;
+    signed(out, sign::halved(f.year))?;
     small(out, f.month)?;
     small(out, f.day)?;
     small(out, f.hour)
@@ -149,7 +149,7 @@ pub(crate) fn tell_leaf<W: Write>(out: &mut W, row: &[u8], told: LeafTold) -> io
     question(out, row)?;
     match told {
         LeafTold::Leading { value, rest } => {
-            signed(out, sign::halves64(value))?;
+            signed(out, sign::halved(value))?;
             natural(out, rest as u64)?;
         }
         LeafTold::NoLeading => print(out, b" refused")?,
@@ -159,7 +159,7 @@ pub(crate) fn tell_leaf<W: Write>(out: &mut W, row: &[u8], told: LeafTold) -> io
             small(out, month)?;
             small(out, day)?;
         }
-        LeafTold::Number(n) => signed(out, sign::halves32(n))?,
+        LeafTold::Number(n) => signed(out, sign::halved(n))?,
         LeafTold::NoMonth => refused(out, refusals::NOT_OF_KIND)?,
         LeafTold::Unasked => print(out, b" = unread")?,
     }

@@ -13,7 +13,7 @@ returns c = rw (← c.julian_ordinal_day.ensures, c.in_default.is)
 
 returns-2 : tie.Need-returns
 returns-2 c =
-    rw (← c.julian_ordinal_day.ensures, c.in-Day.is) (ap (λ z. Gives (Counted z)) (held w32 c.int32.type_inv ∙ c.int32.ensures))
+    rw (← c.julian_ordinal_day.ensures, c.in-Day.is) (ap (λ z. Gives (Counted z)) (held w32 c.int.type_inv ∙ c.int.ensures))
 
 pub ordinal_spec : {M : Type 1} → statement M
 ordinal_spec =

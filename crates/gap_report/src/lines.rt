@@ -15,7 +15,7 @@ use crate::tally::Tally;
 use kinds::{Kind, Packed};
 
 // The byte that ends a line.
-pub(crate) const LINE_END: u8 = 10;
+pub(crate) const LINE_END: u8 = b'\n';
 
 // A number after a byte.
 fn put_after(out: &mut [u8], byte: u8, n: u64) -> usize

@@ -102,6 +102,7 @@ fn later(f: Packed, g: Packed) -> Packed
     chosen(kinds::order_of(g, f), f, g)
 }
 
+// Kept (point 5): (d) with a kind in `Tally` and one beside each date, a call with both would ask that the two kinds are the same.
 // The first record of a kind.
 fn begun(kind: Kind, place: u32, date: Packed) -> Tally
     requires { given (handed (kind_of kind) (bits_of date)) ≡ true }

@@ -1,5 +1,5 @@
 -- The entry over the format, at version 1's.
-use Rattle.std.proofs.Common.{ap, ◌∙◌, arith}
+use Rattle.std.proofs.Common.{ap, ◌∙◌}
 use Rattle.rules.specs.Refusals.{given}
 use Rattle.book.proofs.Laws.{check-one, entry-one}
 use Rattle.book.proofs.entry.Goals as goal

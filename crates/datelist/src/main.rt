@@ -2,22 +2,16 @@
 #![tactic(auto)]
 
 use std::io;
-use std::io::{Read, Write};
 
-// Room for an input: one byte more than it may have, so that a longer one is seen.
-fn input_room() -> [u8; 65536] {
-    [0u8; 65536]
-}
-
-// Room for the longest listing. Its contract says nothing: an `ensures` on an array of this length runs the checker out of stack.
-fn room() -> [u8; 786420] {
-    [0u8; 786420]
-}
-
+// The room for the input has one byte more than it may have, so that a longer one is seen.
 fn main(rt: HostRuntime) -> io::Result<()> {
-    let mut input = input_room();
-    let mut out = room();
-    let n = intake::read_full(&mut rt.reader(), &mut input)?;
-    let m = listing::print(&input[..n], &mut out);
-    io::writer(&rt).write_all(&out[..m])
+    let mut input = intake::room::<65536>();
+    let mut listed = intake::room::<786420>();
+    intake::answer(
+        &mut rt.reader(),
+        &mut io::writer(&rt),
+        &mut input,
+        &mut listed,
+        listing::print,
+    )
 }

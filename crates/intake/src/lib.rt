@@ -5,7 +5,12 @@ ghost use Rattle.std.specs.Prelude.{◌≡◌, ◌≤◌, ◌<◌, length, take,
 ghost use Rattle.std.specs.Io.KnownBytes.{Consumes, IsAtEnd};
 
 use std::io;
-use std::io::Read;
+use std::io::{Read, Write};
+
+// A room of so many bytes, each 0. Its contract says nothing: an `ensures` on an array of a program's length runs the checker out of stack.
+pub fn room<const N: usize>() -> [u8; N] {
+    [0u8; N]
+}
 
 // Reads until the room is full or the input ends, and gives how many bytes it put at the front of the room. What stands behind these in the
 // input is not read. The only errors are the reader's.
@@ -25,4 +30,20 @@ pub fn read_full<R: Read>(reader: &mut R, room: &mut [u8]) -> io::Result<usize>
         filled += n;
     }
     Ok(filled)
+}
+
+// What a program does that answers its input as a whole: reads it into a room, has it answered in another, and writes that answer.
+pub fn answer<R: Read, W: Write, F: FnOnce(&[u8], &mut [u8]) -> usize>(
+    reader: &mut R,
+    writer: &mut W,
+    input: &mut [u8],
+    output: &mut [u8],
+    answer: F,
+) -> io::Result<()>
+    requires callable { (s : _) (o : _) → length o.now ≡ length output.old → F.pre answer s o }
+    requires within { (s : _) (o : _) (m : _) (p : _) → length o.now ≡ length output.old → F.post answer s o m p → m ≤ length output.old }
+{
+    let n = read_full(reader, input)?;
+    let m = answer(&input[..n], output);
+    writer.write_all(&output[..m])
 }

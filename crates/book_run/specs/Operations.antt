@@ -1,10 +1,12 @@
 -- What is told of a book operation, and the buffer after it, by `rules`. Assumes nothing.
-use Rattle.std.specs.Prelude.{ℕ, List}
-use Rattle.rules.specs.Refusals.{Answer, Gives, Refused, RefusedAt, ◌then◌}
+use Rattle.std.specs.Prelude.{ℕ, List, Result}
+use Rattle.rules.specs.Refusals.{Answer, Gives, ◌then◌}
 use Rattle.rules.specs.Book.{check, entry_at, append_answer, append_buffer, new_answer, new_buffer, kind_code, version1, entry_for}
 use Rattle.kinds.specs.Views.{kind_of, bits_of}
 use Rattle.requests.specs.Second.{FieldEntry}
-use Rattle.book.specs.Views.{in_bits}
+use Rattle.refusals.specs.declared.Refusal.{Refusal}
+use Rattle.refusals.specs.Answers.{result_as}
+use Rattle.book.specs.Views.{in_bits, record_as}
 use Rattle.book_run.specs.declared.operations.Operation.{Operation}
 use Rattle.book_run.specs.declared.operations.Operation.TheVariants as O
 use Rattle.book_run.specs.declared.operations.Told.{Told}
@@ -16,12 +18,13 @@ pub data Value : Type 0 where
   Number : ℕ → Value
   Recorded : FieldEntry → Value
 
-abbrev pub told_as : Told → Answer Value
-told_as T.Done = Gives Done
-told_as (T.Number n) = Gives (Number n)
-told_as (T.Record k field d) = Gives (Recorded (record { kind = kind_of k; field = field; date = bits_of d }))
-told_as (T.Refused n) = Refused n
-told_as (T.RefusedAt n place) = RefusedAt n place
+abbrev pub value_of : Told → Value
+value_of T.Done = Done
+value_of (T.Number n) = Number n
+value_of (T.Record r) = Recorded (record_as r)
+
+abbrev pub told_as : Result Told Refusal → Answer Value
+told_as = result_as value_of
 
 abbrev pub answer_of : Operation → List ℕ → Answer Value
 answer_of O.New s = new_answer s then λ n. Gives Done

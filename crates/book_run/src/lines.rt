@@ -5,7 +5,6 @@ use crate::operations::Operation;
 use crate::tables::TableOperation;
 use crate::versions::VersionOperation;
 use crate::{table_lines, version_lines};
-use codes::Lettered;
 use kinds::{Kind, Packed};
 use script::naturals;
 
@@ -175,8 +174,8 @@ fn append(row: &[u8]) -> Line {
     let at = rows::after_word(row, 0, b"append ");
     let letter = rows::byte(row, at);
     match codes::kind_of_letter(letter) {
-        Lettered::Kind(kind) => append_date(row, rows::after(row, at, letter), kind),
-        Lettered::None => Line::Unread,
+        Some(kind) => append_date(row, rows::after(row, at, letter), kind),
+        None => Line::Unread,
     }
 }
 
@@ -186,8 +185,8 @@ fn append_date(row: &[u8], at: usize, kind: Kind) -> Line {
     let word = rows::natural(row, rows::after(row, year.next, b' '));
     if rows::ends(row, word.next) {
         return match date_by(year.up, year.dn, word.up) {
-            Dated::Date(date) => Line::Operation(Operation::Append { kind, date }),
-            Dated::None => Line::Unread,
+            Some(date) => Line::Operation(Operation::Append { kind, date }),
+            None => Line::Unread,
         };
     }
     Line::Unread
@@ -195,23 +194,13 @@ fn append_date(row: &[u8], at: usize, kind: Kind) -> Line {
 
 // ---- a date's bits
 
-#[derive(Clone, Copy)]
-pub(crate) enum Dated {
-    Date(Packed),
-    None,
-}
-
 // By the halves of a year and by a word, where they have so many bits.
-pub(crate) fn date_by(up: u64, dn: u64, word: u64) -> Dated {
-    if up <= 32767 {
-        if dn <= 32768 {
-            if word <= 65535 {
-                return Dated::Date(Packed {
-                    year: sign::int::<i16>(up, dn),
-                    word: word as u16,
-                });
-            }
-        }
+pub(crate) fn date_by(up: u64, dn: u64, word: u64) -> Option<Packed> {
+    if 32767 < up || 32768 < dn || 65535 < word {
+        return None;
     }
-    Dated::None
+    Some(Packed {
+        year: sign::int::<i16>(up, dn),
+        word: word as u16,
+    })
 }

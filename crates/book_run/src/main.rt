@@ -3,11 +3,10 @@
 // `compare/README.md` has the format of the script and of what is told.
 #![tactic(auto)]
 
-ghost use Rattle.std.specs.Prelude.{◌≡◌, ◌≤◌, length, IfOk, OnErr};
-
 use crate::lines::Line;
 use book_versions::any;
-use script::preparing;
+use script::rooms::Rooms;
+use script::{preparing, running};
 use std::io;
 use std::io::{Read, Write};
 
@@ -23,71 +22,32 @@ mod version_lines;
 mod versions;
 
 fn main(rt: HostRuntime) -> io::Result<()> {
-    let mut script = room();
-    let mut buffers = room();
-    let mut targets = room();
+    let mut script = intake::room::<262144>();
+    let mut buffers = intake::room::<262144>();
+    let mut targets = intake::room::<262144>();
     let n = intake::read_full(&mut rt.reader(), &mut script)?;
-    run(
-        &mut io::writer(&rt),
-        &script[..n],
-        &mut buffers,
-        &mut targets,
-    )
+    let mut rooms = Rooms::new(&mut buffers, &mut targets);
+    running::run(&mut io::writer(&rt), &script[..n], |out, row| {
+        step(out, row, &mut rooms)
+    })
 }
 
-// Room for the script, for its buffers, and for the targets of its moves. Its contract says nothing: an `ensures` on an array of this
-// length runs the checker out of stack.
-fn room() -> [u8; 262144] {
-    [0u8; 262144]
-}
-
-// Runs a script in the room that it is lent. Its buffer is the front of that room, at first empty; the target of a move is the front of
-// the spare one.
-fn run<W: Write>(out: &mut W, script: &[u8], room: &mut [u8], spare: &mut [u8]) -> io::Result<()> {
-    let mut size = 0;
-    let mut at = 0;
-    while at < script.len() {
-        let end = rows::next_line(script, at);
-        size = step(out, &script[at..end], room, spare, size)?;
-        at = end;
-    }
-    Ok(())
-}
-
-// Does one line, and gives the size of the buffer after it. A line that cannot be done is told as such, which no expected output has.
-fn step<W: Write>(
-    out: &mut W,
-    row: &[u8],
-    room: &mut [u8],
-    spare: &mut [u8],
-    size: usize,
-) -> io::Result<usize>
-    requires { size ≤ length room.old }
-    ensures ok { IfOk result (λ n. n ≤ length room.old) }
-    ensures err { OnErr result (length room.new ≡ length room.old) }
-{
+// Does one line. A line that cannot be done is told as such, which no expected output has.
+fn step<W: Write>(out: &mut W, row: &[u8], rooms: &mut Rooms) -> io::Result<()> {
+    let buffer = &mut rooms.room[..rooms.size];
     match lines::read(row) {
-        Line::Remark => {
-            telling::remark(out, row)?;
-            Ok(size)
-        }
+        Line::Remark => script::telling::remark(out, row),
         Line::Buffer { length, byte } => {
-            if length <= room.len() {
-                preparing::fill(&mut room[..length], byte);
-                return Ok(length);
-            }
-            telling::unread(out, row)?;
-            Ok(size)
+            let done = rooms.start(length, byte);
+            script::telling::unread_unless(out, row, done)
         }
         Line::Set { place, byte } => {
-            let done = preparing::set_byte(&mut room[..size], place, byte);
-            telling::unread_unless(out, row, done)?;
-            Ok(size)
+            let done = preparing::set_byte(buffer, place, byte);
+            script::telling::unread_unless(out, row, done)
         }
         Line::Copy { from, count, to } => {
-            let done = setting::copy(&mut room[..size], from, count, to);
-            telling::unread_unless(out, row, done)?;
-            Ok(size)
+            let done = setting::copy(buffer, from, count, to);
+            script::telling::unread_unless(out, row, done)
         }
         Line::Entries {
             place,
@@ -95,50 +55,25 @@ fn step<W: Write>(
             count,
             code,
         } => {
-            let done = preparing::entries(&mut room[..size], place, first, count, code);
-            telling::unread_unless(out, row, done)?;
-            Ok(size)
+            let done = preparing::entries(buffer, place, first, count, code);
+            script::telling::unread_unless(out, row, done)
         }
         Line::Operation(operation) => {
-            let told = operations::operate(&mut room[..size], operation);
-            telling::tell(out, row, told, &room[..size])?;
-            Ok(size)
+            let told = operations::operate(buffer, operation);
+            telling::tell(out, row, told, false, buffer)
         }
         Line::Version(operation) => {
-            let told = versions::operate(&mut room[..size], operation);
-            telling::tell_version(out, row, told, &room[..size])?;
-            Ok(size)
+            let told = versions::operate(buffer, operation);
+            telling::tell(out, row, told, true, buffer)
         }
-        Line::Walk { place, numbers } => {
-            walk(out, row, &room[..size], place, numbers)?;
-            Ok(size)
-        }
-        Line::Gaps(asked) => {
-            gaps::tell(out, row, &room[..size], asked)?;
-            Ok(size)
-        }
-        Line::Move {
-            upward,
-            room: length,
-            byte,
-        } => {
-            if length <= spare.len() {
-                if length <= room.len() {
-                    return moved(out, row, room, size, &mut spare[..length], upward, byte);
-                }
-            }
-            telling::unread(out, row)?;
-            Ok(size)
-        }
+        Line::Walk { place, numbers } => walk(out, row, buffer, place, numbers),
+        Line::Gaps(asked) => gaps::tell(out, row, buffer, asked),
+        Line::Move { upward, room, byte } => moved(out, row, rooms, upward, room, byte),
         Line::Table(operation) => {
-            let told = tables::operate(&mut room[..size], operation);
-            telling::tell_table(out, row, told, &room[..size])?;
-            Ok(size)
+            let told = tables::operate(buffer, operation);
+            script::telling::table(out, row, told, buffer)
         }
-        Line::Unread => {
-            telling::unread(out, row)?;
-            Ok(size)
-        }
+        Line::Unread => script::telling::unread(out, row),
     }
 }
 
@@ -150,47 +85,36 @@ fn walk<W: Write>(
     place: usize,
     numbers: usize,
 ) -> io::Result<()> {
-    let mut lent = [7u32; 64];
-    if numbers <= 64 {
-        walk_into(out, row, book, place, &mut lent[..numbers])
-    } else {
-        telling::unread(out, row)
+    if 64 < numbers {
+        return script::telling::unread(out, row);
     }
+    let mut lent = [7u32; 64];
+    let lent = &mut lent[..numbers];
+    let told = operations::counted(any::records(book, place, lent));
+    telling::before_lent(out, row, told)?;
+    telling::numbers(out, lent)?;
+    telling::after_lent(out, book)
 }
 
-fn walk_into<W: Write>(
-    out: &mut W,
-    row: &[u8],
-    book: &[u8],
-    place: usize,
-    lent: &mut [u32],
-) -> io::Result<()> {
-    let told = operations::checked(any::records(book, place, lent));
-    telling::tell_walk(out, row, told, lent, book)
-}
-
-// Moves the book in the buffer into a target. Where that is done, the target is the buffer from then on. Gives the size of the buffer.
+// Moves the book in the buffer into a target of so many bytes, each this one before. Where that is done, the target is the buffer from then
+// on.
 fn moved<W: Write>(
     out: &mut W,
     row: &[u8],
-    room: &mut [u8],
-    size: usize,
-    target: &mut [u8],
+    rooms: &mut Rooms,
     upward: bool,
+    length: usize,
     byte: u8,
-) -> io::Result<usize>
-    requires { (size ≤ length room.old) × (length target.old ≤ length room.old) }
-    ensures ok { IfOk result (λ n. n ≤ length room.old) }
-    ensures err { OnErr result (length room.new ≡ length room.old) }
-{
-    preparing::fill(target, byte);
-    let told = versions::move_book(&room[..size], target, upward);
-    let done = operations::is_number(told);
-    telling::tell(out, row, told, target)?;
-    if done {
-        let length = target.len();
-        preparing::put(&mut room[..length], target);
-        return Ok(length);
+) -> io::Result<()> {
+    if rooms.room.len() < length || rooms.spare.len() < length {
+        return script::telling::unread(out, row);
     }
-    Ok(size)
+    let target = &mut rooms.spare[..length];
+    target.fill(byte);
+    let told = versions::move_book(&rooms.room[..rooms.size], target, upward);
+    telling::tell(out, row, told, false, target)?;
+    if told.is_ok() {
+        rooms.take(length);
+    }
+    Ok(())
 }

@@ -1,13 +1,13 @@
-// The book's operations, and what each answers in one type.
+// The book's operations, and what each gives in one type.
 ghost use Rattle.std.specs.Prelude.{◌≡◌};
 ghost use Rattle.rules.specs.Refusals.{Gives, ◌then◌};
 ghost use Rattle.frame.specs.Views.{started_as};
-ghost use Rattle.book.specs.Views.{checked_as, found_as, appended_as};
+ghost use Rattle.book.specs.Views.{checked_as, found_as};
 ghost use Rattle.book_run.specs.Operations.{Done, Number, Recorded, told_as, answer_of, buffer_of};
 
-use book::{Appended, Checked, Found};
-use frame::Started;
+use book::Record;
 use kinds::{Kind, Packed};
+use refusals::Refusal;
 
 #[derive(Clone, Copy)]
 pub(crate) enum Operation {
@@ -17,94 +17,45 @@ pub(crate) enum Operation {
     Append { kind: Kind, date: Packed },
 }
 
-// What is told of an operation: what it gives, or the number of its refusal, some with a record's place.
+// What is told of an operation that was not refused.
+// Kept (point 2): (a) `Value` of the specs of `script`, which its laws of tables name, has no records.
 #[derive(Clone, Copy)]
 pub(crate) enum Told {
     Done,
     Number(usize),
-    Record {
-        kind: Kind,
-        field: u16,
-        date: Packed,
-    },
-    Refused(u8),
-    RefusedAt {
-        refusal: u8,
-        place: usize,
-    },
+    Record(Record),
 }
 
-pub(crate) fn operate(b: &mut [u8], operation: Operation) -> Told
+pub(crate) fn operate(b: &mut [u8], operation: Operation) -> Result<Told, Refusal>
     ensures result_value { told_as result ≡ answer_of operation b.old }
     ensures b_after { b.new ≡ buffer_of operation b.old }
 {
     match operation {
         Operation::New => started(book::new(b)),
-        Operation::Check => checked(book::check(b)),
+        Operation::Check => counted(book::check(b)),
         Operation::Record(place) => found(book_reader::next_at(b, place)),
-        Operation::Append { kind, date } => appended(book::append(b, kind, date)),
+        Operation::Append { kind, date } => counted(book::append(b, kind, date)),
     }
 }
 
-pub(crate) fn started(answer: Started) -> Told
+pub(crate) fn started(answer: Result<(), Refusal>) -> Result<Told, Refusal>
     ensures { told_as result ≡ (started_as answer then λ n. Gives Done) }
 {
-    match answer {
-        Started::Written => Told::Done,
-        Started::NoRoom => Told::Refused(refusals::NO_ROOM),
-    }
+    answer?;
+    Ok(Told::Done)
 }
 
-pub(crate) fn checked(answer: Checked) -> Told
+// A number of records or of bytes, or a place.
+pub(crate) fn counted(answer: Result<usize, Refusal>) -> Result<Told, Refusal>
     ensures { told_as result ≡ (checked_as answer then λ n. Gives (Number n)) }
 {
-    match answer {
-        Checked::Records(n) => Told::Number(n),
-        Checked::BadLength => Told::Refused(refusals::BAD_LENGTH),
-        Checked::BadVersion => Told::Refused(refusals::BAD_VERSION),
-        Checked::BadRecord(place) => Told::RefusedAt {
-            refusal: refusals::BAD_RECORD,
-            place,
-        },
-    }
+    let n = answer?;
+    Ok(Told::Number(n))
 }
 
-pub(crate) fn found(answer: Found) -> Told
+pub(crate) fn found(answer: Result<Record, Refusal>) -> Result<Told, Refusal>
     ensures { told_as result ≡ (found_as answer then λ b. Gives (Recorded b)) }
 {
-    match answer {
-        Found::Record { kind, field, date } => Told::Record { kind, field, date },
-        Found::BadLength => Told::Refused(refusals::BAD_LENGTH),
-        Found::BadVersion => Told::Refused(refusals::BAD_VERSION),
-        Found::BadRecord(place) => Told::RefusedAt {
-            refusal: refusals::BAD_RECORD,
-            place,
-        },
-        Found::NoRecord => Told::Refused(refusals::NO_RECORD),
-    }
-}
-
-pub(crate) fn appended(answer: Appended) -> Told
-    ensures { told_as result ≡ (appended_as answer then λ n. Gives (Number n)) }
-{
-    match answer {
-        Appended::At(n) => Told::Number(n),
-        Appended::NotOfKind => Told::Refused(refusals::NOT_OF_KIND),
-        Appended::BadLength => Told::Refused(refusals::BAD_LENGTH),
-        Appended::BadVersion => Told::Refused(refusals::BAD_VERSION),
-        Appended::BadRecord(place) => Told::RefusedAt {
-            refusal: refusals::BAD_RECORD,
-            place,
-        },
-        Appended::NoRoom => Told::Refused(refusals::NO_ROOM),
-        Appended::GuessedDate => Told::Refused(refusals::GUESSED_DATE),
-    }
-}
-
-// Whether a number is told, and no refusal.
-pub(crate) fn is_number(told: Told) -> bool {
-    match told {
-        Told::Number(_) => true,
-        _ => false,
-    }
+    let record = answer?;
+    Ok(Told::Record(record))
 }

@@ -1,8 +1,7 @@
 // The lines of a script that are about version 2, either version and the moves, read as those of `lines` are.
-use crate::lines::{Dated, Line};
+use crate::lines::Line;
 use crate::versions::VersionOperation;
 use crate::{gap_lines, lines};
-use codes::Lettered;
 use kinds::Kind;
 use script::naturals;
 
@@ -45,8 +44,8 @@ fn append(row: &[u8], at: usize) -> Line {
     let at = rows::after_word(row, at, b"append ");
     let letter = rows::byte(row, at);
     match codes::kind_of_letter(letter) {
-        Lettered::Kind(kind) => append_date(row, rows::after(row, at, letter), kind),
-        Lettered::None => Line::Unread,
+        Some(kind) => append_date(row, rows::after(row, at, letter), kind),
+        None => Line::Unread,
     }
 }
 
@@ -59,12 +58,12 @@ fn append_date(row: &[u8], at: usize, kind: Kind) -> Line {
         let number = field.up;
         if number <= 65535 {
             return match lines::date_by(year.up, year.dn, word.up) {
-                Dated::Date(date) => Line::Version(VersionOperation::Append {
+                Some(date) => Line::Version(VersionOperation::Append {
                     kind,
                     field: number as u16,
                     date,
                 }),
-                Dated::None => Line::Unread,
+                None => Line::Unread,
             };
         }
     }

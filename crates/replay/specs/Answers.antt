@@ -1,7 +1,7 @@
 -- What is told of a kind's answer, and what `rules` answers to what is asked. Assumes nothing.
-use Rattle.std.specs.Prelude.{ℕ, Bool, true, false, List, ℤ, pos}
+use Rattle.std.specs.Prelude.{ℕ, Bool, true, false, List, ℤ, pos, Result}
 use Rattle.rules.specs.Words.{minus}
-use Rattle.rules.specs.Refusals.{Answer, Gives, Refused, ◌then◌}
+use Rattle.rules.specs.Refusals.{Answer, Gives, ◌then◌}
 use Rattle.rules.specs.Kinds.{Kind, Fields, Stored, from_fields, stored, store_guess, store, store_like, of_date, of_dates, without_mark, least, greatest}
 use Rattle.rules.specs.Numbers.{reads_numbers, read_number, guesses, guess_number, writes_numbers, write_number}
 use Rattle.rules.specs.Days.{counts_days, add_days, difference, Order, Before, Same, After, order}
@@ -9,6 +9,8 @@ use Rattle.rules.specs.Text.{read_text}
 use Rattle.requests.specs.IsoReader.{read_iso}
 use Rattle.kinds.specs.declared.Packed.{Packed}
 use Rattle.kinds.specs.Views.{bits_of}
+use Rattle.refusals.specs.declared.Refusal.{Refusal}
+use Rattle.refusals.specs.Answers.{result_as}
 use Rattle.replay.specs.declared.answers.Told.{Told}
 use Rattle.replay.specs.declared.answers.Told.TheVariants as T
 
@@ -18,11 +20,13 @@ pub data Value : Type 0 where
   Counted : ℤ → Value
   Unasked : Value
 
-abbrev pub told_as : Told → Answer Value
-told_as (T.Date d) = Gives (Dated (bits_of d))
-told_as (T.Number n) = Gives (Counted n)
-told_as (T.Refused n) = Refused n
-told_as T.Unasked = Gives Unasked
+abbrev pub value_of : Told → Value
+value_of (T.Date d) = Dated (bits_of d)
+value_of (T.Number n) = Counted n
+value_of T.Unasked = Unasked
+
+abbrev pub told_as : Result Told Refusal → Answer Value
+told_as = result_as value_of
 
 abbrev pub dated : Answer Stored → Answer Value
 dated a = a then λ d. Gives (Dated d)

@@ -1,5 +1,5 @@
 -- What is told of a leaf's answer, and what the definitions answer. Assumes nothing.
-use Rattle.std.specs.Prelude.{ℕ, ◌-◌, cond, List, ltb, ℤ, length}
+use Rattle.std.specs.Prelude.{ℕ, ◌-◌, cond, List, ltb, ℤ, length, Option, Some, None}
 use Rattle.std.proofs.Math.IntN.{sub_ℕ}
 use Rattle.rules.specs.Refusals.{Answer, Gives, Refused, ◌then◌, not_text, not_of_kind}
 use Rattle.rules.specs.Calendar.{month_day}
@@ -7,8 +7,6 @@ use Rattle.rules.specs.Numbers.{straight_at}
 use Rattle.scalar.specs.Number.{leading_number}
 use Rattle.util.specs.Word.{bytes_of}
 use Rattle.util.specs.Parse.{parsed}
-use Rattle.util.specs.declared.Parsed.{Parsed}
-use Rattle.util.specs.declared.Parsed.TheVariants as P
 use Rattle.julian.specs.First.{first_day_of}
 use Rattle.replay.specs.declared.leaves.LeafTold.{LeafTold}
 use Rattle.replay.specs.declared.leaves.LeafTold.TheVariants as T
@@ -37,9 +35,9 @@ abbrev pub leading_answer : List ℕ → Answer LeafValue
 leading_answer s = leading_number s then λ r. Gives (Led r.value (length r.rest))
 
 -- the number of eight digits, as `util` defines it, or that there is none
-abbrev pub digits_given : Parsed → Answer LeafValue
-digits_given (P.Value value) = Gives (Digits value)
-digits_given P.NotDigits = Gives NoDigits
+abbrev pub digits_given : Option ℕ → Answer LeafValue
+digits_given (Some value) = Gives (Digits value)
+digits_given None = Gives NoDigits
 
 abbrev pub digits_answer : ℕ → Answer LeafValue
 digits_answer word = digits_given (parsed (bytes_of 8 word))

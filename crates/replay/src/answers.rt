@@ -1,198 +1,164 @@
 // What the kinds' own methods answer to texts, numbers and fields, and their constants, in one type.
 ghost use Rattle.std.specs.Prelude.{◌≡◌};
 ghost use Rattle.rules.specs.Refusals.{Gives};
+ghost use Rattle.rules.specs.Kinds.{stored, least, greatest};
 ghost use Rattle.kinds.specs.Views.{kind_of, fields_of, bits_of};
-ghost use Rattle.by_kind.specs.Views.{parsed_as};
+ghost use Rattle.pds_date.specs.Views.{made_as, parsed_as, decoded_as, guessed_as};
 ghost use Rattle.replay.specs.Answers.{Dated, told_as, dated, text_answer, iso_answer, number_answer, guess_answer, fields_answer, least_answer, greatest_answer};
 
-use by_kind::Parsed;
 use date::Date;
 use date_hour::DateHour;
 use eu5_date::Eu5Date;
 use kinds::{ExpandedRawDate, Kind, Packed};
+use pds_date::{FromYmd, FromYmdh, Guessed, HasGuess, PdsDate, ReadsNumbers};
 use raw_date::RawDate;
+use refusals::Refusal;
 use uniform_date::UniformDate;
 use vic3_date::Vic3Date;
 
-// What is told: a date, a number, the number of a refusal, or that there was nothing to ask.
+// What is told where nothing is refused: a date, a number, or that there was nothing to ask.
 #[derive(Clone, Copy)]
 pub(crate) enum Told {
     Date(Packed),
     Number(i32),
-    Refused(u8),
     Unasked,
 }
 
-pub(crate) fn date(raw: Packed) -> Told
-    ensures { told_as result ≡ Gives (Dated (bits_of raw)) }
+// ---- what each method of a kind answers, as what is told
+
+pub(crate) fn dated<D: PdsDate>(answer: Result<D, Refusal>) -> Result<Told, Refusal>
+    ensures { told_as result ≡ dated (parsed_as D.bits answer) }
 {
-    Told::Date(raw)
+    let date = answer?;
+    Ok(Told::Date(date.raw()))
 }
 
-fn parsed(read: Parsed) -> Told
-    ensures { told_as result ≡ dated (parsed_as read) }
+pub(crate) fn made<D: PdsDate>(answer: Option<D>) -> Result<Told, Refusal>
+    ensures { told_as result ≡ dated (made_as D.bits answer) }
 {
-    match read {
-        Parsed::Date(raw) => Told::Date(raw),
-        Parsed::TooLong => Told::Refused(refusals::TOO_LONG),
-        Parsed::NotText => Told::Refused(refusals::NOT_TEXT),
+    match answer {
+        Some(date) => Ok(Told::Date(date.raw())),
+        None => Err(Refusal::NotOfKind),
     }
 }
 
-pub(crate) fn text(kind: Kind, text: &[u8]) -> Told
+fn decoded<D: PdsDate>(answer: Option<D>) -> Result<Told, Refusal>
+    ensures { told_as result ≡ dated (decoded_as D.bits answer) }
+{
+    match answer {
+        Some(date) => Ok(Told::Date(date.raw())),
+        None => Err(Refusal::NotNumber),
+    }
+}
+
+fn guessed<D: PdsDate>(answer: Option<Guessed<D>>) -> Result<Told, Refusal>
+    ensures { told_as result ≡ dated (guessed_as D.bits answer) }
+{
+    match answer {
+        Some(guess) => Ok(Told::Date(guess.date.raw())),
+        None => Err(Refusal::NotNumber),
+    }
+}
+
+// ---- from texts, numbers and fields
+// Kept (point 2): (a) each arm calls the kind's own method, which is what is compared with the original.
+
+pub(crate) fn text(kind: Kind, text: &[u8]) -> Result<Told, Refusal>
     ensures { told_as result ≡ text_answer (kind_of kind) text.now }
 {
-    parsed(by_kind::parse(kind, text))
+    let raw = by_kind::parse(kind, text)?;
+    Ok(Told::Date(raw))
 }
 
-pub(crate) fn iso(kind: Kind, text: &[u8]) -> Told
+pub(crate) fn iso(kind: Kind, text: &[u8]) -> Result<Told, Refusal>
     ensures { told_as result ≡ iso_answer (kind_of kind) text.now }
 {
-    parsed(by_kind::parse_iso(kind, text))
+    let raw = by_kind::parse_iso(kind, text)?;
+    Ok(Told::Date(raw))
 }
 
-pub(crate) fn number(kind: Kind, n: i32) -> Told
+pub(crate) fn number(kind: Kind, n: i32) -> Result<Told, Refusal>
     ensures { told_as result ≡ number_answer (kind_of kind) n }
 {
     match kind {
-        Kind::Raw => {
-            let raw_date::Decoded::Date(d) = RawDate::from_binary(n) else {
-                return Told::Refused(refusals::NOT_NUMBER);
-            };
-            date(d.raw)
-        }
-        Kind::Date => {
-            let date::Decoded::Date(d) = Date::from_binary(n) else {
-                return Told::Refused(refusals::NOT_NUMBER);
-            };
-            date(d.raw)
-        }
-        Kind::Hour => {
-            let date_hour::Decoded::Date(d) = DateHour::from_binary(n) else {
-                return Told::Refused(refusals::NOT_NUMBER);
-            };
-            date(d.raw)
-        }
-        Kind::Uniform => Told::Unasked,
-        Kind::Eu5 => {
-            let eu5_date::Decoded::Date(d) = Eu5Date::from_binary(n) else {
-                return Told::Refused(refusals::NOT_NUMBER);
-            };
-            date(d.raw)
-        }
-        Kind::Vic3 => {
-            let vic3_date::Decoded::Date(d) = Vic3Date::from_binary(n) else {
-                return Told::Refused(refusals::NOT_NUMBER);
-            };
-            date(d.raw)
-        }
+        Kind::Raw => decoded(RawDate::from_binary(n)),
+        Kind::Date => decoded(Date::from_binary(n)),
+        Kind::Hour => decoded(DateHour::from_binary(n)),
+        Kind::Uniform => Ok(Told::Unasked),
+        Kind::Eu5 => decoded(Eu5Date::from_binary(n)),
+        Kind::Vic3 => decoded(Vic3Date::from_binary(n)),
     }
 }
 
-pub(crate) fn guess(kind: Kind, n: i32) -> Told
+pub(crate) fn guess(kind: Kind, n: i32) -> Result<Told, Refusal>
     ensures { told_as result ≡ guess_answer (kind_of kind) n }
 {
     match kind {
-        Kind::Raw => Told::Unasked,
-        Kind::Date => {
-            let date::Guessed::Date(d) = Date::from_binary_heuristic(n) else {
-                return Told::Refused(refusals::NOT_NUMBER);
-            };
-            date(d.raw)
-        }
-        Kind::Hour => {
-            let date_hour::Guessed::Date(d) = DateHour::from_binary_heuristic(n) else {
-                return Told::Refused(refusals::NOT_NUMBER);
-            };
-            date(d.raw)
-        }
-        Kind::Uniform => Told::Unasked,
-        Kind::Eu5 => {
-            let eu5_date::Guessed::Date(d) = Eu5Date::from_binary_heuristic(n) else {
-                return Told::Refused(refusals::NOT_NUMBER);
-            };
-            date(d.raw)
-        }
-        Kind::Vic3 => {
-            let vic3_date::Guessed::Date(d) = Vic3Date::from_binary_heuristic(n) else {
-                return Told::Refused(refusals::NOT_NUMBER);
-            };
-            date(d.raw)
-        }
+        Kind::Raw | Kind::Uniform => Ok(Told::Unasked),
+        Kind::Date => guessed(Date::from_binary_heuristic(n)),
+        Kind::Hour => guessed(DateHour::from_binary_heuristic(n)),
+        Kind::Eu5 => guessed(Eu5Date::from_binary_heuristic(n)),
+        Kind::Vic3 => guessed(Vic3Date::from_binary_heuristic(n)),
     }
 }
 
 // D, U and E are asked without an hour.
-pub(crate) fn fields(kind: Kind, f: ExpandedRawDate) -> Told
+#[tactic(auto, unfolding(rules::specs::Kinds::from_fields))]
+pub(crate) fn fields(kind: Kind, f: ExpandedRawDate) -> Result<Told, Refusal>
     ensures { told_as result ≡ fields_answer (kind_of kind) (fields_of f) }
 {
+    let ExpandedRawDate {
+        year,
+        month,
+        day,
+        hour,
+    } = f;
     match kind {
-        Kind::Raw => {
-            let raw_date::Made::Date(d) = RawDate::from_ymdh_opt(f.year, f.month, f.day, f.hour)
-            else {
-                return Told::Refused(refusals::NOT_OF_KIND);
-            };
-            date(d.raw)
-        }
-        Kind::Date => {
-            let date::Made::Date(d) = Date::from_ymd_opt(f.year, f.month, f.day) else {
-                return Told::Refused(refusals::NOT_OF_KIND);
-            };
-            date(d.raw)
-        }
-        Kind::Hour => {
-            let date_hour::Made::Date(d) = DateHour::from_ymdh_opt(f.year, f.month, f.day, f.hour)
-            else {
-                return Told::Refused(refusals::NOT_OF_KIND);
-            };
-            date(d.raw)
-        }
-        Kind::Uniform => {
-            let uniform_date::Made::Date(d) = UniformDate::from_ymd_opt(f.year, f.month, f.day)
-            else {
-                return Told::Refused(refusals::NOT_OF_KIND);
-            };
-            date(d.raw)
-        }
-        Kind::Eu5 => {
-            let eu5_date::Made::Date(d) = Eu5Date::from_ymd_opt(f.year, f.month, f.day) else {
-                return Told::Refused(refusals::NOT_OF_KIND);
-            };
-            date(d.raw)
-        }
-        Kind::Vic3 => {
-            let vic3_date::Made::Date(d) = Vic3Date::from_ymdh_opt(f.year, f.month, f.day, f.hour)
-            else {
-                return Told::Refused(refusals::NOT_OF_KIND);
-            };
-            date(d.raw)
-        }
+        Kind::Raw => made(RawDate::from_ymdh_opt(year, month, day, hour)),
+        Kind::Date => made(Date::from_ymd_opt(year, month, day)),
+        Kind::Hour => made(DateHour::from_ymdh_opt(year, month, day, hour)),
+        Kind::Uniform => made(UniformDate::from_ymd_opt(year, month, day)),
+        Kind::Eu5 => made(Eu5Date::from_ymd_opt(year, month, day)),
+        Kind::Vic3 => made(Vic3Date::from_ymdh_opt(year, month, day, hour)),
     }
 }
 
-// The constants themselves: by these two contracts their values are those of the definitions.
-pub(crate) fn least(kind: Kind) -> Told
+// ---- the constants
+
+fn least_of<D: PdsDate>() -> Result<Told, Refusal>
+    ensures { told_as result ≡ Gives (Dated (stored (least (kind_of D.KIND)))) }
+{
+    Ok(Told::Date(D::least().raw()))
+}
+
+fn greatest_of<D: PdsDate>() -> Result<Told, Refusal>
+    ensures { told_as result ≡ Gives (Dated (stored (greatest (kind_of D.KIND)))) }
+{
+    Ok(Told::Date(D::greatest().raw()))
+}
+
+pub(crate) fn least(kind: Kind) -> Result<Told, Refusal>
     ensures { told_as result ≡ least_answer (kind_of kind) }
 {
     match kind {
-        Kind::Raw => date(RawDate::LEAST.raw),
-        Kind::Date => date(Date::LEAST.raw),
-        Kind::Hour => date(DateHour::LEAST.raw),
-        Kind::Uniform => date(UniformDate::LEAST.raw),
-        Kind::Eu5 => date(Eu5Date::LEAST.raw),
-        Kind::Vic3 => date(Vic3Date::LEAST.raw),
+        Kind::Raw => least_of::<RawDate>(),
+        Kind::Date => least_of::<Date>(),
+        Kind::Hour => least_of::<DateHour>(),
+        Kind::Uniform => least_of::<UniformDate>(),
+        Kind::Eu5 => least_of::<Eu5Date>(),
+        Kind::Vic3 => least_of::<Vic3Date>(),
     }
 }
 
-pub(crate) fn greatest(kind: Kind) -> Told
+pub(crate) fn greatest(kind: Kind) -> Result<Told, Refusal>
     ensures { told_as result ≡ greatest_answer (kind_of kind) }
 {
     match kind {
-        Kind::Raw => date(RawDate::GREATEST.raw),
-        Kind::Date => date(Date::GREATEST.raw),
-        Kind::Hour => date(DateHour::GREATEST.raw),
-        Kind::Uniform => date(UniformDate::GREATEST.raw),
-        Kind::Eu5 => date(Eu5Date::GREATEST.raw),
-        Kind::Vic3 => date(Vic3Date::GREATEST.raw),
+        Kind::Raw => greatest_of::<RawDate>(),
+        Kind::Date => greatest_of::<Date>(),
+        Kind::Hour => greatest_of::<DateHour>(),
+        Kind::Uniform => greatest_of::<UniformDate>(),
+        Kind::Eu5 => greatest_of::<Eu5Date>(),
+        Kind::Vic3 => greatest_of::<Vic3Date>(),
     }
 }

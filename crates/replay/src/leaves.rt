@@ -2,9 +2,8 @@
 ghost use Rattle.std.specs.Prelude.{◌≡◌, ◌-◌};
 ghost use Rattle.replay.specs.Leaves.{leaf_told_as, leading_answer, digits_answer, month_day_answer, ordinal_answer, binary_answer};
 
-use julian::FirstDay;
+use julian::MonthDay;
 use scalar::Leading;
-use util::Parsed;
 
 // What is told.
 #[derive(Clone, Copy)]
@@ -23,7 +22,7 @@ pub(crate) enum LeafTold {
 pub(crate) fn leading(text: &[u8]) -> LeafTold
     ensures { leaf_told_as result ≡ leading_answer text.now }
 {
-    let Leading::Number { value, next } = scalar::to_i64_t(text) else {
+    let Some(Leading { value, next }) = scalar::to_i64_t(text) else {
         return LeafTold::NoLeading;
     };
     LeafTold::Leading {
@@ -35,31 +34,27 @@ pub(crate) fn leading(text: &[u8]) -> LeafTold
 pub(crate) fn digits(word: u64) -> LeafTold
     ensures { leaf_told_as result ≡ digits_answer word }
 {
-    let parsed = util::fast_digit_parse(word);
-    match parsed {
-        Parsed::Value(value) => LeafTold::Digits(value),
-        Parsed::NotDigits => LeafTold::NoDigits,
+    match util::fast_digit_parse(word) {
+        Some(value) => LeafTold::Digits(value),
+        None => LeafTold::NoDigits,
     }
 }
 
 pub(crate) fn month_day(day: u16) -> LeafTold
     ensures { leaf_told_as result ≡ month_day_answer day }
 {
-    if day < 365 {
-        let d = julian::month_day_from_julian(day);
-        return LeafTold::MonthDay {
-            month: d.month,
-            day: d.day,
-        };
+    if 365 <= day {
+        return LeafTold::Unasked;
     }
-    LeafTold::Unasked
+    let MonthDay { month, day } = julian::month_day_from_julian(day);
+    LeafTold::MonthDay { month, day }
 }
 
 // The original's count is one less than ours, since its days start at 1.
 pub(crate) fn ordinal(month: u8) -> LeafTold
     ensures { leaf_told_as result ≡ ordinal_answer month }
 {
-    let FirstDay::Day(first) = julian::julian_ordinal_day(month) else {
+    let Some(first) = julian::julian_ordinal_day(month) else {
         return LeafTold::NoMonth;
     };
     LeafTold::Number(sign::int::<i32>(first as u64, 1))
@@ -69,14 +64,5 @@ pub(crate) fn ordinal(month: u8) -> LeafTold
 pub(crate) fn binary(year: i16, day: u16, hour: u8) -> LeafTold
     ensures { leaf_told_as result ≡ binary_answer year day hour }
 {
-    LeafTold::Number(julian::to_binary(year, day, lowered(hour)))
-}
-
-fn lowered(hour: u8) -> u8
-    ensures { result ≡ hour - 1 }
-{
-    if hour == 0 {
-        return 0;
-    }
-    hour - 1
+    LeafTold::Number(julian::to_binary(year, day, hour.saturating_sub(1)))
 }

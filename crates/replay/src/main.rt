@@ -3,8 +3,8 @@
 // and the gate compares the bytes. `compare/README.md` says what a row is.
 #![tactic(auto)]
 
-use codes::Lettered;
 use kinds::Kind;
+use script::running;
 use std::io;
 use std::io::{Read, Write};
 
@@ -19,31 +19,16 @@ mod quoted;
 mod telling;
 
 fn main(rt: HostRuntime) -> io::Result<()> {
-    let mut input = room();
+    let mut input = intake::room::<524288>();
     let n = intake::read_full(&mut rt.reader(), &mut input)?;
-    run(&mut io::writer(&rt), &input[..n])
-}
-
-// Room for the questions. Its contract says nothing: an `ensures` on an array of this length runs the checker out of stack.
-fn room() -> [u8; 524288] {
-    [0u8; 524288]
-}
-
-fn run<W: Write>(out: &mut W, s: &[u8]) -> io::Result<()> {
-    let mut at = 0;
-    while at < s.len() {
-        let end = rows::next_line(s, at);
-        step(out, &s[at..end])?;
-        at = end;
-    }
-    Ok(())
+    running::run(&mut io::writer(&rt), &input[..n], |out, row| step(out, row))
 }
 
 // A row that starts with the letter of a kind asks that kind; any other asks a leaf.
 fn step<W: Write>(out: &mut W, row: &[u8]) -> io::Result<()> {
     match codes::kind_of_letter(rows::byte(row, 0)) {
-        Lettered::Kind(kind) => ask_kind(out, row, kind),
-        Lettered::None => telling::tell_leaf(out, row, questions::of_leaf(row)),
+        Some(kind) => ask_kind(out, row, kind),
+        None => telling::tell_leaf(out, row, questions::of_leaf(row)),
     }
 }
 
@@ -58,17 +43,17 @@ fn ask_kind<W: Write>(out: &mut W, row: &[u8], kind: Kind) -> io::Result<()> {
 fn spellings<W: Write>(out: &mut W, row: &[u8], kind: Kind) -> io::Result<()> {
     let from = parts::date(row, rows::after_word(row, 1, b" s "));
     if rows::ends(row, from.next) {
-        telling::spellings(out, row, kind, from.date)
+        telling::spellings(out, row, kind, from.value)
     } else {
-        telling::unread(out, row)
+        script::telling::unread(out, row)
     }
 }
 
 fn exchange<W: Write>(out: &mut W, row: &[u8], kind: Kind) -> io::Result<()> {
     let from = parts::date(row, rows::after_word(row, 1, b" x "));
     if rows::ends(row, from.next) {
-        telling::exchange(out, row, kind, from.date)
+        telling::exchange(out, row, kind, from.value)
     } else {
-        telling::unread(out, row)
+        script::telling::unread(out, row)
     }
 }

@@ -10,7 +10,9 @@ use date::Date;
 use date_hour::DateHour;
 use eu5_date::Eu5Date;
 use kinds::{Kind, Packed};
+use pds_date::PdsDate;
 use raw_date::RawDate;
+use refusals::Refusal;
 use uniform_date::UniformDate;
 use vic3_date::Vic3Date;
 
@@ -18,54 +20,24 @@ pub(crate) fn is_guessed(kind: Kind, raw: Packed) -> bool
     ensures { result ≡ is_guessed (bits_of raw) }
 {
     match kind {
-        Kind::Raw => RawDate::is_guessed(RawDate { raw }),
-        Kind::Date => Date::is_guessed(Date { raw }),
-        Kind::Hour => DateHour::is_guessed(DateHour { raw }),
-        Kind::Uniform => UniformDate::is_guessed(UniformDate { raw }),
-        Kind::Eu5 => Eu5Date::is_guessed(Eu5Date { raw }),
-        Kind::Vic3 => Vic3Date::is_guessed(Vic3Date { raw }),
+        Kind::Raw => RawDate { raw }.is_guessed(),
+        Kind::Date => Date { raw }.is_guessed(),
+        Kind::Hour => DateHour { raw }.is_guessed(),
+        Kind::Uniform => UniformDate { raw }.is_guessed(),
+        Kind::Eu5 => Eu5Date { raw }.is_guessed(),
+        Kind::Vic3 => Vic3Date { raw }.is_guessed(),
     }
 }
 
-pub(crate) fn without_mark(kind: Kind, raw: Packed) -> Told
+pub(crate) fn without_mark(kind: Kind, raw: Packed) -> Result<Told, Refusal>
     ensures { told_as result ≡ unmarked_answer (kind_of kind) raw }
 {
     match kind {
-        Kind::Raw => {
-            let raw_date::Made::Date(d) = RawDate::without_mark(RawDate { raw }) else {
-                return Told::Refused(refusals::NOT_OF_KIND);
-            };
-            answers::date(d.raw)
-        }
-        Kind::Date => {
-            let date::Made::Date(d) = Date::without_mark(Date { raw }) else {
-                return Told::Refused(refusals::NOT_OF_KIND);
-            };
-            answers::date(d.raw)
-        }
-        Kind::Hour => {
-            let date_hour::Made::Date(d) = DateHour::without_mark(DateHour { raw }) else {
-                return Told::Refused(refusals::NOT_OF_KIND);
-            };
-            answers::date(d.raw)
-        }
-        Kind::Uniform => {
-            let uniform_date::Made::Date(d) = UniformDate::without_mark(UniformDate { raw }) else {
-                return Told::Refused(refusals::NOT_OF_KIND);
-            };
-            answers::date(d.raw)
-        }
-        Kind::Eu5 => {
-            let eu5_date::Made::Date(d) = Eu5Date::without_mark(Eu5Date { raw }) else {
-                return Told::Refused(refusals::NOT_OF_KIND);
-            };
-            answers::date(d.raw)
-        }
-        Kind::Vic3 => {
-            let vic3_date::Made::Date(d) = Vic3Date::without_mark(Vic3Date { raw }) else {
-                return Told::Refused(refusals::NOT_OF_KIND);
-            };
-            answers::date(d.raw)
-        }
+        Kind::Raw => answers::made(RawDate { raw }.without_mark()),
+        Kind::Date => answers::made(Date { raw }.without_mark()),
+        Kind::Hour => answers::made(DateHour { raw }.without_mark()),
+        Kind::Uniform => answers::made(UniformDate { raw }.without_mark()),
+        Kind::Eu5 => answers::made(Eu5Date { raw }.without_mark()),
+        Kind::Vic3 => answers::made(Vic3Date { raw }.without_mark()),
     }
 }

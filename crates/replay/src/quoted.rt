@@ -1,97 +1,72 @@
 // A text in double quotes, as a row has it: bytes 0x21 to 0x7e other than `"` and `\` are themselves, every other byte is `\xNN`.
-ghost use Rattle.std.specs.Prelude.{◌<◌, ◌≤◌, length};
+ghost use Rattle.std.specs.Prelude.{◌<◌, ◌≤◌, length, IfSome};
 
 use crate::parts;
 use rows::NOWHERE;
-
-// How many bytes the text has, and the place after it.
-#[derive(Clone, Copy)]
-pub(crate) struct Quoted {
-    pub(crate) length: usize,
-    pub(crate) next: usize,
-}
-
-// One byte of the text, and the place after it.
-#[derive(Clone, Copy)]
-struct OneByte {
-    value: u8,
-    next: usize,
-}
+use script::naturals::Part;
 
 // The byte that `\xNN` spells at a place.
-fn escaped(s: &[u8], at: usize) -> OneByte
+fn escaped(s: &[u8], at: usize) -> Option<u8>
     requires { at < length s.now }
-    ensures { at < result.next }
 {
-    if 3 < s.len() - at {
-        let high = parts::hex_digit(s[at + 2]);
-        let low = parts::hex_digit(s[at + 3]);
-        if s[at + 1] == b'x' {
-            if high < 16 {
-                if low < 16 {
-                    return OneByte {
-                        value: high * 16 + low,
-                        next: at + 4,
-                    };
-                }
-            }
-        }
+    if s.len() - at <= 3 || s[at + 1] != b'x' {
+        return None;
     }
-    OneByte {
-        value: 0,
-        next: NOWHERE,
-    }
+    let high = parts::hex_digit(s[at + 2])?;
+    let low = parts::hex_digit(s[at + 3])?;
+    Some(high * 16 + low)
 }
 
 // The byte of the text at a place: itself or spelled.
-fn single(s: &[u8], at: usize) -> OneByte
+fn single(s: &[u8], at: usize) -> Option<Part<u8>>
     requires { at < length s.now }
-    ensures { at < result.next }
+    ensures { IfSome result (λ p. at < p.next) }
 {
-    let b = s[at];
-    if b == b'\\' {
-        return escaped(s, at);
-    }
-    if 0x21 <= b {
-        if b <= 0x7e {
-            return OneByte {
-                value: b,
-                next: at + 1,
-            };
+    match s[at] {
+        b'\\' => {
+            let value = escaped(s, at)?;
+            Some(Part {
+                value,
+                next: at + 4,
+            })
         }
-    }
-    OneByte {
-        value: 0,
-        next: NOWHERE,
+        value @ 0x21..=0x7e => Some(Part {
+            value,
+            next: at + 1,
+        }),
+        _ => None,
     }
 }
 
-// The text that begins at a place, into `out`. There is none where it is longer, or does not end.
-pub(crate) fn text(s: &[u8], at: usize, out: &mut [u8]) -> Quoted
-    ensures { result.length ≤ length out.new }
+// The text that begins at a place, into `out`, as its length. There is none where it is longer, or does not end.
+pub(crate) fn text(s: &[u8], at: usize, out: &mut [u8]) -> Part<usize>
+    ensures { result.value ≤ length out.new }
 {
     let mut place = rows::after(s, at, b'"');
     let mut length = 0;
+    // Kept (point 3): each turn goes one byte on or four, which no `for` counts.
     while place < s.len() {
         if s[place] == b'"' {
-            return Quoted {
-                length,
+            return Part {
+                value: length,
                 next: place + 1,
             };
         }
         if out.len() <= length {
-            return Quoted {
-                length: 0,
-                next: NOWHERE,
-            };
+            return NONE;
         }
-        let one = single(s, place);
-        out[length] = one.value;
+        let Some(Part { value, next }) = single(s, place) else {
+            return NONE;
+        };
+        out[length] = value;
         length += 1;
-        place = one.next;
+        place = next;
     }
-    Quoted {
-        length: 0,
-        next: NOWHERE,
-    }
+    NONE
 }
+
+// No text, and nothing after it.
+const NONE: Part<usize> = Part {
+    value: 0,
+    next: NOWHERE,
+};

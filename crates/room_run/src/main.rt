@@ -15,9 +15,9 @@ mod lines;
 mod telling;
 
 fn main(rt: HostRuntime) -> io::Result<()> {
-    let mut script = script_room();
-    let mut input = room();
-    let mut lent = room();
+    let mut script = intake::room::<65536>();
+    let mut input = intake::room::<786432>();
+    let mut lent = intake::room::<786432>();
     let n = intake::read_full(&mut rt.reader(), &mut script)?;
     let mut rooms = Rooms {
         input: &mut input,
@@ -27,17 +27,6 @@ fn main(rt: HostRuntime) -> io::Result<()> {
     running::run(&mut io::writer(&rt), &script[..n], |out, row| {
         rooms.step(out, row)
     })
-}
-
-// Room for the script.
-fn script_room() -> [u8; 65536] {
-    [0u8; 65536]
-}
-
-// Room for the longest buffer that is lent, and for an input, which is much shorter. Its contract says nothing: an `ensures` on an array of
-// this length runs the checker out of stack.
-fn room() -> [u8; 786432] {
-    [0u8; 786432]
 }
 
 // The input is the front of the room for it, at first without bytes; a buffer that is lent is the front of the other room.

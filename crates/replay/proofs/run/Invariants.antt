@@ -1,6 +1,0 @@
--- Each row moves the place on.
-use Rattle.std.proofs.Common.{length, ◌-◌}
-use Rattle.replay.proofs.run.Given as goal
-
-abbrev pub decreases-loop-at : goal.decreases-loop-at
-decreases-loop-at g l = length l.s - l.at

@@ -23,6 +23,7 @@ pub fn letter(kind: Kind) -> u8
     }
 }
 
+#[tactic(auto, unfolding(rules::specs::Listing::kind_of_letter))]
 pub fn kind_of_letter(b: u8) -> Option<Kind>
     ensures { lettered_as result ≡ kind_of_letter b }
 {
@@ -51,6 +52,7 @@ pub fn kind_code(kind: Kind) -> u8
 }
 
 // The whole number is looked at: 258 is no kind's code, though its low byte is one.
+#[tactic(auto, unfolding(rules::specs::Book::kind_of_code))]
 pub fn kind_of_code(code: u32) -> Option<Kind>
     ensures { coded_as result ≡ kind_of_code code }
 {

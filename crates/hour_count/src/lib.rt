@@ -90,12 +90,8 @@ fn moved(
     ensures { summed_as result ≡ store_with mark (hour_summed (kind_of kind) (hour_number (kind_of kind) (fields_of date) +ℤ pos block *ℤ count)) }
 {
     let n = number_of(kind, date);
-    let nu = n.up;
-    let nd = n.dn;
     let m = sign::halved(count);
-    let mu = m.up;
-    let md = m.dn;
-    date_at(kind, nu + block * mu, nd + block * md, mark)
+    date_at(kind, n.up + block * m.up, n.dn + block * m.dn, mark)
 }
 
 // A date moved by so many blocks of so many hours. Past 32 bits the sum of hours overflows; outside the years it is out of range. The

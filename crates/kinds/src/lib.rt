@@ -81,6 +81,7 @@ fn hour_fits(kind: Kind, hour: u8) -> bool
 }
 
 // Whether month, day and hour are those of a date of the kind.
+#[tactic(auto, unfolding(rules::specs::Kinds::fits_kind))]
 fn fits_kind(kind: Kind, month: u8, day: u8, hour: u8) -> bool
     ensures { result ≡ fits_kind (kind_of kind) month day hour }
 {
@@ -133,6 +134,7 @@ fn make_wide(kind: Kind, year: i32, month: u32, day: u32, hour: u32) -> Option<P
 }
 
 // A date of a field set, of any numbers.
+#[tactic(auto, unfolding(rules::specs::Kinds::from_fields))]
 pub fn from_fields(kind: Kind, year: i32, month: u32, day: u32, hour: u32) -> Option<Packed>
     ensures { made_as not_of_kind result ≡ store (from_fields (kind_of kind) (record { year = year; month = month; day = day; hour = hour })) }
 {

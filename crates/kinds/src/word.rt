@@ -11,6 +11,7 @@ pub const NO_MARK: u16 = 0;
 pub const GUESSED_MARK: u16 = 1;
 
 // A date of these fields as it is stored, with this mark.
+#[tactic(auto, unfolding(rules::specs::Kinds::packed))]
 pub fn pack(mark: u16, fields: ExpandedRawDate) -> Packed
     requires { (mark < 4) × (fields.month < 16) × (fields.day < 32) × (fields.hour < 32) }
     ensures { bits_of result ≡ stored_with mark (fields_of fields) }

@@ -7,6 +7,7 @@ ghost use Rattle.listing.specs.Answers.{lent_as};
 use refusals::Refusal;
 
 // The bytes to lend for an input of so many, which are enough whatever it holds.
+#[tactic(auto, unfolding(requests::specs::ListingRoom::listing_room))]
 pub fn room_for(n: usize) -> Result<usize, Refusal>
     ensures { lent_as result ≡ listing_room n }
 {

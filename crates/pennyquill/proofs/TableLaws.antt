@@ -7,6 +7,7 @@ use native.Mathlib.Omega.{arith}
 use lib.Dec.{lit<}
 use lib.IntN.{ℤ}
 use lib.ListN.{length}
+use Rattle.std.specs.Prelude.{Result}
 use Rattle.std.proofs.Common.{rules}
 use Rattle.rules.specs.Refusals.{Answer, Gives, Refused, RefusedAt, ◌then◌, given}
 use Rattle.rules.specs.Kinds.{Kind}
@@ -19,6 +20,8 @@ use Rattle.requests.proofs.OnFieldTable.HeldLaws.{sensible-table, found-holds}
 use Rattle.requests.specs.Fours.{least}
 use Rattle.requests.proofs.OnFours.FourLaws.{least_first, least-second}
 use Rattle.requests.proofs.OnFieldTable.AfterLaws.{after-declare, after-remove}
+use Rattle.refusals.specs.declared.Refusal.{Refusal}
+use Rattle.field_table.specs.Views.{checked_as, changed_as}
 use Rattle.pennyquill.specs.Boundary.{number_of, place_of}
 use Rattle.pennyquill.proofs.Sizes.{Any, Plain, small-then, small-within, plain-then, plain-demand, plain-gives, small-place, small-outcome}
 use Rattle.pennyquill.proofs.BookSizes.{framed-any, pick_small}
@@ -38,6 +41,15 @@ unfolding counted
 counted-by (Gives rs) plain most = most rs refl
 counted-by (Refused n) plain most = omega arith
 counted-by (RefusedAt n place) plain most = plain.is
+
+-- so is what the code says of them: a check's answer, and that of a declaration or a removal
+pub checked-by : (x : Answer (List (List ℕ))) → Plain x → ((rs : List (List ℕ)) → x ≡ Gives rs → length rs ≤ 4096) →
+    (r : Result ℕ Refusal) → checked_as r ≡ counted x → number_of (checked_as r) ≤ 4096
+checked-by x plain most r e = rw e (counted-by x plain most)
+
+pub changed-by : (x : Answer (List (List ℕ))) → Plain x → ((rs : List (List ℕ)) → x ≡ Gives rs → length rs ≤ 4096) →
+    (r : Result ℕ Refusal) → changed_as r ≡ counted x → number_of (changed_as r) ≤ 4096
+changed-by = checked-by
 
 pub entries-plain : (table : TableFormat) (s : List ℕ) → Plain (entries table s)
 unfolding entries

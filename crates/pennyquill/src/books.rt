@@ -19,15 +19,15 @@ pub fn started(answer: Result<(), Refusal>) -> PqAnswer
 {
     match answer {
         Ok(()) => crossing::gives(0),
-        Err(refusal) => crossing::refused(refusal),
+        Err(refusal) => crossing::refusal_told(refusal),
     }
 }
 
-pub fn no_record(refusal: Refusal) -> PqRecord
+pub fn refused_record(refusal: Refusal) -> PqRecord
     requires { place_of (refusal_as {A = ℕ} refusal) ≤ 4294967295 }
     ensures { result ≡ record_crossed (refusal_as refusal) }
 {
-    let PqAnswer { refusal, value } = crossing::refused(refusal);
+    let PqAnswer { refusal, value } = crossing::refusal_told(refusal);
     PqRecord {
         refusal,
         kind: 0,
@@ -47,7 +47,7 @@ pub fn record_crossed(found: Result<Record, Refusal>) -> PqRecord
             value: codes::date_number(record.date),
             field: record.field as u32,
         },
-        Err(refusal) => no_record(refusal),
+        Err(refusal) => refused_record(refusal),
     }
 }
 

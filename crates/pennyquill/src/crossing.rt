@@ -44,7 +44,7 @@ fn place_of(refusal: Refusal) -> u32
     }
 }
 
-pub fn refused(refusal: Refusal) -> PqAnswer
+pub fn refusal_told(refusal: Refusal) -> PqAnswer
     requires { place_of (refusal_as {A = ℕ} refusal) ≤ 4294967295 }
     ensures { result ≡ crossed (refusal_as refusal) }
 {
@@ -57,7 +57,7 @@ pub fn refused(refusal: Refusal) -> PqAnswer
 pub fn not_of_kind() -> PqAnswer
     ensures { result ≡ crossed (Refused not_of_kind) }
 {
-    refused(Refusal::NotOfKind)
+    refusal_told(Refusal::NotOfKind)
 }
 
 // A count, a length or a place.
@@ -67,7 +67,7 @@ pub fn counted(answer: Result<usize, Refusal>) -> PqAnswer
 {
     match answer {
         Ok(n) => gives(n as u32),
-        Err(refusal) => refused(refusal),
+        Err(refusal) => refusal_told(refusal),
     }
 }
 
@@ -77,7 +77,7 @@ pub fn dated(answer: Result<Packed, Refusal>) -> PqAnswer
 {
     match answer {
         Ok(date) => gives_date(date),
-        Err(refusal) => refused(refusal),
+        Err(refusal) => refusal_told(refusal),
     }
 }
 

@@ -42,7 +42,7 @@ fn read_crossed(read: Option<Packed>) -> PqAnswer
 {
     match read {
         Some(date) => crossing::gives_date(date),
-        None => crossing::refused(Refusal::NotNumber),
+        None => crossing::refusal_told(Refusal::NotNumber),
     }
 }
 
@@ -51,7 +51,7 @@ fn guess_crossed(guess: Option<Guess>) -> PqAnswer
 {
     match guess {
         Some(guess) => crossing::gives_date(guess.date),
-        None => crossing::refused(Refusal::NotNumber),
+        None => crossing::refusal_told(Refusal::NotNumber),
     }
 }
 

@@ -63,7 +63,7 @@ pub extern "C" fn pq_leagues_lookup(
 pub extern "C" fn pq_leagues_entry(table: &[u8], league: u32, place: usize) -> PqRecord
     ensures { result ≡ entry_crossed (own_entry_at table.now league place) }
 {
-    tables::entry_crossed(league_table::entry_at(table, league, place))
+    tables::entry_told(league_table::entry_at(table, league, place))
 }
 
 // A version 1 table, into a second buffer as one of league 1 alone.

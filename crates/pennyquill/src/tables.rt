@@ -18,7 +18,7 @@ const MOST_ASKED: usize = 4294967295;
 
 // ---- answers
 
-pub fn entry_crossed(entry: Result<Entry, Refusal>) -> PqRecord
+pub fn entry_told(entry: Result<Entry, Refusal>) -> PqRecord
     requires { place_of (entry_as entry) ≤ 4294967295 }
     ensures { result ≡ entry_crossed (entry_as entry) }
 {
@@ -29,7 +29,7 @@ pub fn entry_crossed(entry: Result<Entry, Refusal>) -> PqRecord
             value: 0,
             field: entry.field,
         },
-        Err(refusal) => books::no_record(refusal),
+        Err(refusal) => books::refused_record(refusal),
     }
 }
 
@@ -95,7 +95,7 @@ pub extern "C" fn pq_table_remove(table: &mut [u8], field: u32) -> PqAnswer
 pub extern "C" fn pq_table_entry(table: &[u8], place: usize) -> PqRecord
     ensures { result ≡ entry_crossed (entry_at table1 table.now place) }
 {
-    entry_crossed(field_table::entry_at(table, place))
+    entry_told(field_table::entry_at(table, place))
 }
 
 #[unsafe(no_mangle)]

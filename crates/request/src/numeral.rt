@@ -14,20 +14,15 @@ fn one_to_ten(n: usize) -> bool
 }
 
 // Whether 1 to 10 bytes follow a `-`, or stand alone. A leading number may begin with `+` too; this one may not.
+#[tactic(auto, unfolding(crate::specs::Numerals::few_digits))]
 fn few_digits(t: &[u8]) -> bool
     ensures { result ≡ few_digits t.now }
 {
-    if t.len() < 1 {
-        return false;
+    match t {
+        [] | [b'+', ..] => false,
+        [b'-', digits @ ..] => one_to_ten(digits.len()),
+        [..] => one_to_ten(t.len()),
     }
-    let b = t[0];
-    if b == b'+' {
-        return false;
-    }
-    if b == b'-' {
-        return one_to_ten(t.len() - 1);
-    }
-    one_to_ten(t.len())
 }
 
 fn whole32(value: i64) -> Option<i32>

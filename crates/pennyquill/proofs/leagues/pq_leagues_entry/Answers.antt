@@ -3,5 +3,5 @@ use Rattle.pennyquill.proofs.Sizes.{small-fits}
 use Rattle.pennyquill.proofs.LeagueSizes.{own-entry-small}
 use Rattle.pennyquill.proofs.leagues.pq_leagues_entry.Goals as goal
 
-pub entry_crossed-requires : goal.entry_crossed-requires
-entry_crossed-requires c = small-fits (rw c.entry_at.ensures (own-entry-small _ _ _))
+pub entry_told-requires : goal.entry_told-requires
+entry_told-requires c = small-fits (rw c.entry_at.ensures (own-entry-small _ _ _))

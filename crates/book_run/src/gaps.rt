@@ -1,5 +1,4 @@
 // The gap report of a book and its figures, into bytes or numbers that are lent, and told with all of these.
-use crate::gap_lines::GapLine;
 use crate::{operations, telling};
 use std::io;
 use std::io::Write;
@@ -9,6 +8,14 @@ const MOST_BYTES: usize = 400;
 
 // The most numbers that a line lends for its figures.
 const MOST_NUMBERS: usize = 64;
+
+// What is asked for, and how much is lent for it: bytes for the report, numbers for its figures. A line that lends more than there is is told
+// as unread.
+#[derive(Clone, Copy)]
+pub(crate) enum GapLine {
+    Report(usize),
+    Figures(usize),
+}
 
 pub(crate) fn tell<W: Write>(
     out: &mut W,

@@ -1,12 +1,10 @@
-// The lines of a script. A reader that does not find its part answers NOWHERE as the place after it, as those of `rows` do, so
-// that a line is read to its end, and tested once.
-use crate::gap_lines::GapLine;
+// The lines of a script.
+use crate::gaps::GapLine;
 use crate::operations::Operation;
 use crate::tables::TableOperation;
 use crate::versions::VersionOperation;
 use crate::{table_lines, version_lines};
-use kinds::{Kind, Packed};
-use script::naturals;
+use script::reader::Reader;
 
 #[derive(Clone, Copy)]
 pub(crate) enum Line {
@@ -47,160 +45,104 @@ pub(crate) enum Line {
 }
 
 pub(crate) fn read(row: &[u8]) -> Line {
-    match rows::byte(row, 0) {
+    let row = Reader::new(row);
+    match row.byte() {
         b'#' => Line::Remark,
-        b'b' => buffer(row),
-        b's' => set_or_second(row),
-        b'c' => copy_or_check(row),
-        b'n' => new(row),
-        b'r' => record(row),
-        b'a' => append_or_any(row),
-        b'e' => entries(row),
-        b't' => table_or_to(row),
+        b'b' => buffer(row.after(b"buffer")),
+        b's' => set_or_second(row.after(b"se")),
+        b'c' => copy_or_check(row.after(b"c")),
+        b'n' => whole(row.after(b"new"), Line::Operation(Operation::New)),
+        b'r' => record(row.after(b"record")),
+        b'a' => append_or_any(row.after(b"a")),
+        b'e' => entries(row.after(b"entries")),
+        b't' => table_or_to(row.after(b"t")),
         _ => Line::Unread,
     }
 }
 
-fn copy_or_check(row: &[u8]) -> Line {
-    if rows::byte(row, 1) == b'o' {
-        return copy(row);
+// By the third letter.
+fn set_or_second(row: Reader) -> Line {
+    match row.byte() {
+        b'c' => version_lines::second(row.after(b"cond ")),
+        _ => set(row.after(b"t")),
     }
-    check(row)
 }
 
-fn set_or_second(row: &[u8]) -> Line {
-    if rows::byte(row, 2) == b'c' {
-        return version_lines::second(row);
+// By the second letter.
+fn copy_or_check(row: Reader) -> Line {
+    match row.byte() {
+        b'o' => copy(row.after(b"opy")),
+        _ => whole(row.after(b"heck"), Line::Operation(Operation::Check)),
     }
-    set(row)
 }
 
-fn append_or_any(row: &[u8]) -> Line {
-    if rows::byte(row, 1) == b'n' {
-        return version_lines::any(row);
+fn append_or_any(row: Reader) -> Line {
+    match row.byte() {
+        b'n' => version_lines::any(row.after(b"ny ")),
+        _ => append(row.after(b"ppend")),
     }
-    append(row)
 }
 
-fn table_or_to(row: &[u8]) -> Line {
-    if rows::byte(row, 1) == b'o' {
-        return version_lines::to(row);
+fn table_or_to(row: Reader) -> Line {
+    match row.byte() {
+        b'o' => version_lines::to(row.after(b"o")),
+        _ => table_lines::read(row.after(b"able ")),
     }
-    table_lines::read(row)
+}
+
+// A line that ends after its parts.
+pub(crate) fn whole(row: Reader, line: Line) -> Line {
+    if row.ends() { line } else { Line::Unread }
 }
 
 // ---- what prepares the buffer
 
-fn buffer(row: &[u8]) -> Line {
-    let length = rows::natural(row, rows::after_word(row, 0, b"buffer "));
-    let byte = naturals::byte8(row, rows::after(row, length.next, b' '));
-    if rows::ends(row, byte.next) {
-        return Line::Buffer {
-            length: naturals::place_of(length.up),
-            byte: byte.value,
-        };
-    }
-    Line::Unread
+fn buffer(mut row: Reader) -> Line {
+    let line = Line::Buffer {
+        length: row.place(),
+        byte: row.byte8(),
+    };
+    whole(row, line)
 }
 
-fn set(row: &[u8]) -> Line {
-    let place = rows::natural(row, rows::after_word(row, 0, b"set "));
-    let byte = naturals::byte8(row, rows::after(row, place.next, b' '));
-    if rows::ends(row, byte.next) {
-        return Line::Set {
-            place: naturals::place_of(place.up),
-            byte: byte.value,
-        };
-    }
-    Line::Unread
+fn set(mut row: Reader) -> Line {
+    let line = Line::Set {
+        place: row.place(),
+        byte: row.byte8(),
+    };
+    whole(row, line)
 }
 
-fn copy(row: &[u8]) -> Line {
-    let from = rows::natural(row, rows::after_word(row, 0, b"copy "));
-    let count = rows::natural(row, rows::after(row, from.next, b' '));
-    let to = rows::natural(row, rows::after(row, count.next, b' '));
-    if rows::ends(row, to.next) {
-        return Line::Copy {
-            from: naturals::place_of(from.up),
-            count: naturals::place_of(count.up),
-            to: naturals::place_of(to.up),
-        };
-    }
-    Line::Unread
+fn copy(mut row: Reader) -> Line {
+    let line = Line::Copy {
+        from: row.place(),
+        count: row.place(),
+        to: row.place(),
+    };
+    whole(row, line)
 }
 
-fn entries(row: &[u8]) -> Line {
-    let place = rows::natural(row, rows::after_word(row, 0, b"entries "));
-    let first = rows::natural(row, rows::after(row, place.next, b' '));
-    let count = rows::natural(row, rows::after(row, first.next, b' '));
-    let code = naturals::byte8(row, rows::after(row, count.next, b' '));
-    if rows::ends(row, code.next) {
-        return Line::Entries {
-            place: naturals::place_of(place.up),
-            first: naturals::place_of(first.up),
-            count: naturals::place_of(count.up),
-            code: code.value,
-        };
-    }
-    Line::Unread
+fn entries(mut row: Reader) -> Line {
+    let line = Line::Entries {
+        place: row.place(),
+        first: row.place(),
+        count: row.place(),
+        code: row.byte8(),
+    };
+    whole(row, line)
 }
 
 // ---- the operations
 
-fn new(row: &[u8]) -> Line {
-    if rows::ends(row, rows::after_word(row, 0, b"new")) {
-        return Line::Operation(Operation::New);
-    }
-    Line::Unread
+fn record(mut row: Reader) -> Line {
+    let operation = Operation::Record(row.place());
+    whole(row, Line::Operation(operation))
 }
 
-fn check(row: &[u8]) -> Line {
-    if rows::ends(row, rows::after_word(row, 0, b"check")) {
-        return Line::Operation(Operation::Check);
-    }
-    Line::Unread
-}
-
-fn record(row: &[u8]) -> Line {
-    let place = rows::natural(row, rows::after_word(row, 0, b"record "));
-    if rows::ends(row, place.next) {
-        let at = naturals::place_of(place.up);
-        return Line::Operation(Operation::Record(at));
-    }
-    Line::Unread
-}
-
-fn append(row: &[u8]) -> Line {
-    let at = rows::after_word(row, 0, b"append ");
-    let letter = rows::byte(row, at);
-    match codes::kind_of_letter(letter) {
-        Some(kind) => append_date(row, rows::after(row, at, letter), kind),
-        None => Line::Unread,
-    }
-}
-
-// The year and the word that follow the letter of a kind.
-fn append_date(row: &[u8], at: usize, kind: Kind) -> Line {
-    let year = rows::signed(row, rows::after(row, at, b' '));
-    let word = rows::natural(row, rows::after(row, year.next, b' '));
-    if rows::ends(row, word.next) {
-        return match date_by(year.up, year.dn, word.up) {
-            Some(date) => Line::Operation(Operation::Append { kind, date }),
-            None => Line::Unread,
-        };
-    }
-    Line::Unread
-}
-
-// ---- a date's bits
-
-// By the halves of a year and by a word, where they have so many bits.
-pub(crate) fn date_by(up: u64, dn: u64, word: u64) -> Option<Packed> {
-    if 32767 < up || 32768 < dn || 65535 < word {
-        return None;
-    }
-    Some(Packed {
-        year: sign::int::<i16>(up, dn),
-        word: word as u16,
-    })
+fn append(mut row: Reader) -> Line {
+    let Some(kind) = row.kind() else {
+        return Line::Unread;
+    };
+    let date = row.date();
+    whole(row, Line::Operation(Operation::Append { kind, date }))
 }

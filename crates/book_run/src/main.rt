@@ -10,7 +10,6 @@ use script::{preparing, running};
 use std::io;
 use std::io::{Read, Write};
 
-mod gap_lines;
 mod gaps;
 mod lines;
 mod operations;
@@ -110,7 +109,7 @@ fn moved<W: Write>(
         return script::telling::unread(out, row);
     }
     let target = &mut rooms.spare[..length];
-    target.fill(byte);
+    preparing::fill(target, byte);
     let told = versions::move_book(&rooms.room[..rooms.size], target, upward);
     telling::tell(out, row, told, false, target)?;
     if told.is_ok() {

@@ -18,7 +18,7 @@ pub(crate) enum Operation {
 }
 
 // What is told of an operation that was not refused.
-// Kept (point 2): (a) `Value` of the specs of `script`, which its laws of tables name, has no records.
+// Kept (point 2): (a) `answer_of` of the specs gives a `Value` of this crate, with records, and that of `script` one of tables.
 #[derive(Clone, Copy)]
 pub(crate) enum Told {
     Done,

@@ -5,7 +5,7 @@ pub(crate) fn copy(buffer: &mut [u8], from: usize, count: usize, to: usize) -> b
     if buffer.len() < count || buffer.len() - count < from || buffer.len() - count < to {
         return false;
     }
-    // Kept (point 3): `copy_within` copies as the bytes were before, and does not repeat.
+    // Kept (point 3): (d) `copy_within` copies as the bytes were before, and does not repeat.
     for i in 0..count {
         buffer[to + i] = buffer[from + i];
     }

@@ -1,142 +1,105 @@
-// The lines of a script that are about version 2, either version and the moves, read as those of `lines` are.
+// The lines of a script that are about version 2, either version, the gap report and the moves, after their first word.
+use crate::gaps::GapLine;
+use crate::lines;
 use crate::lines::Line;
 use crate::versions::VersionOperation;
-use crate::{gap_lines, lines};
-use kinds::Kind;
-use script::naturals;
+use script::reader::Reader;
+
+fn asked(row: Reader, operation: VersionOperation) -> Line {
+    lines::whole(row, Line::Version(operation))
+}
 
 // ---- version 2
 
-pub(crate) fn second(row: &[u8]) -> Line {
-    let at = rows::after_word(row, 0, b"second ");
-    match rows::byte(row, at) {
-        b'n' => plain(
-            row,
-            rows::after_word(row, at, b"new"),
-            VersionOperation::New,
-        ),
-        b'c' => plain(
-            row,
-            rows::after_word(row, at, b"check"),
-            VersionOperation::Check,
-        ),
-        b'r' => record(row, at),
-        b'a' => append(row, at),
+pub(crate) fn second(row: Reader) -> Line {
+    match row.byte() {
+        b'n' => asked(row.after(b"new"), VersionOperation::New),
+        b'c' => asked(row.after(b"check"), VersionOperation::Check),
+        b'r' => record(row.after(b"record")),
+        b'a' => append(row.after(b"append")),
         _ => Line::Unread,
     }
 }
 
-// A line that ends after its word.
-fn plain(row: &[u8], end: usize, operation: VersionOperation) -> Line {
-    if rows::ends(row, end) {
-        return Line::Version(operation);
-    }
-    Line::Unread
+fn record(mut row: Reader) -> Line {
+    let operation = VersionOperation::Record(row.place());
+    asked(row, operation)
 }
 
-fn record(row: &[u8], at: usize) -> Line {
-    let place = rows::natural(row, rows::after_word(row, at, b"record "));
-    let n = naturals::place_of(place.up);
-    plain(row, place.next, VersionOperation::Record(n))
-}
-
-fn append(row: &[u8], at: usize) -> Line {
-    let at = rows::after_word(row, at, b"append ");
-    let letter = rows::byte(row, at);
-    match codes::kind_of_letter(letter) {
-        Some(kind) => append_date(row, rows::after(row, at, letter), kind),
-        None => Line::Unread,
-    }
-}
-
-// The field number, the year and the word that follow the letter of a kind.
-fn append_date(row: &[u8], at: usize, kind: Kind) -> Line {
-    let field = rows::natural(row, rows::after(row, at, b' '));
-    let year = rows::signed(row, rows::after(row, field.next, b' '));
-    let word = rows::natural(row, rows::after(row, year.next, b' '));
-    if rows::ends(row, word.next) {
-        let number = field.up;
-        if number <= 65535 {
-            return match lines::date_by(year.up, year.dn, word.up) {
-                Some(date) => Line::Version(VersionOperation::Append {
-                    kind,
-                    field: number as u16,
-                    date,
-                }),
-                None => Line::Unread,
-            };
-        }
-    }
-    Line::Unread
+fn append(mut row: Reader) -> Line {
+    let Some(kind) = row.kind() else {
+        return Line::Unread;
+    };
+    let operation = VersionOperation::Append {
+        kind,
+        field: row.word16(),
+        date: row.date(),
+    };
+    asked(row, operation)
 }
 
 // ---- either version
 
-pub(crate) fn any(row: &[u8]) -> Line {
-    let at = rows::after_word(row, 0, b"any ");
-    match rows::byte(row, at) {
-        b'c' => plain(
-            row,
-            rows::after_word(row, at, b"check"),
-            VersionOperation::AnyCheck,
-        ),
-        b'f' => gap_lines::figures(row, at),
-        _ => record_or_report(row, at),
+pub(crate) fn any(row: Reader) -> Line {
+    match row.byte() {
+        b'c' => asked(row.after(b"check"), VersionOperation::AnyCheck),
+        b'f' => figures(row.after(b"figures")),
+        _ => records_or_report(row.after(b"re")),
     }
 }
 
-// By the third letter of the word after `any `.
-fn record_or_report(row: &[u8], at: usize) -> Line {
-    if rows::byte(row, 6) == b'p' {
-        return gap_lines::report(row, at);
+// By the third letter of the word after `any`.
+fn records_or_report(row: Reader) -> Line {
+    match row.byte() {
+        b'p' => report(row.after(b"port")),
+        _ => record_or_records(row.after(b"cord")),
     }
-    let single = rows::natural(row, rows::after_word(row, at, b"record "));
-    if rows::ends(row, single.next) {
-        let n = naturals::place_of(single.up);
-        return Line::Version(VersionOperation::AnyRecord(n));
-    }
-    walk(row, at)
 }
 
-fn walk(row: &[u8], at: usize) -> Line {
-    let place = rows::natural(row, rows::after_word(row, at, b"records "));
-    let numbers = rows::natural(row, rows::after(row, place.next, b' '));
-    if rows::ends(row, numbers.next) {
-        if numbers.up <= 64 {
-            return Line::Walk {
-                place: naturals::place_of(place.up),
-                numbers: naturals::place_of(numbers.up),
-            };
-        }
+// By the letter after `record`.
+fn record_or_records(row: Reader) -> Line {
+    match row.byte() {
+        b's' => walk(row.after(b"s")),
+        _ => any_record(row),
     }
-    Line::Unread
+}
+
+fn any_record(mut row: Reader) -> Line {
+    let operation = VersionOperation::AnyRecord(row.place());
+    asked(row, operation)
+}
+
+// Of more numbers than there are to lend it is told as unread.
+fn walk(mut row: Reader) -> Line {
+    let line = Line::Walk {
+        place: row.place(),
+        numbers: row.place(),
+    };
+    lines::whole(row, line)
+}
+
+fn report(mut row: Reader) -> Line {
+    let asked = GapLine::Report(row.place());
+    lines::whole(row, Line::Gaps(asked))
+}
+
+fn figures(mut row: Reader) -> Line {
+    let asked = GapLine::Figures(row.place());
+    lines::whole(row, Line::Gaps(asked))
 }
 
 // ---- the moves
 
-pub(crate) fn to(row: &[u8]) -> Line {
-    let version = rows::natural(row, rows::after_word(row, 0, b"to "));
-    let room = rows::natural(row, rows::after(row, version.next, b' '));
-    let byte = naturals::byte8(row, rows::after(row, room.next, b' '));
-    if rows::ends(row, byte.next) {
-        let length = naturals::place_of(room.up);
-        return move_to(version.up, length, byte.value);
-    }
-    Line::Unread
-}
-
-fn move_to(version: u64, room: usize, byte: u8) -> Line {
-    match version {
-        1 => Line::Move {
-            upward: false,
-            room,
-            byte,
-        },
-        2 => Line::Move {
-            upward: true,
-            room,
-            byte,
-        },
-        _ => Line::Unread,
-    }
+pub(crate) fn to(mut row: Reader) -> Line {
+    let upward = match row.place() {
+        1 => false,
+        2 => true,
+        _ => return Line::Unread,
+    };
+    let line = Line::Move {
+        upward,
+        room: row.place(),
+        byte: row.byte8(),
+    };
+    lines::whole(row, line)
 }

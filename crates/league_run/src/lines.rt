@@ -1,8 +1,7 @@
-// The lines of a script. A reader that does not find its part answers NOWHERE as the place after it, as those of `rows` do, so
-// that a line is read to its end, and tested once.
+// The lines of a script.
 use crate::operations::Operation;
 use crate::setting::Setting;
-use script::naturals;
+use script::reader::Reader;
 
 #[derive(Clone, Copy)]
 pub(crate) enum Line {
@@ -16,200 +15,151 @@ pub(crate) enum Line {
 }
 
 pub(crate) fn read(row: &[u8]) -> Line {
-    match rows::byte(row, 0) {
+    let row = Reader::new(row);
+    match row.byte() {
         b'#' => Line::Remark,
-        b'b' => buffer(row),
-        b's' => set_or_share(row),
-        b'e' => entry_or_entries(row),
-        b'n' => plain(row, rows::after_word(row, 0, b"new"), Operation::New),
-        b'c' => check(row),
-        b'd' => declare(row),
-        b'r' => remove(row),
-        b'l' => lookup(row),
-        b'f' => from_table(row),
-        b't' => old(row),
+        b'b' => buffer(row.after(b"buffer")),
+        b's' => set_or_share(row.after(b"s")),
+        b'e' => entry_or_entries(row.after(b"entr")),
+        b'n' => asked(row.after(b"new"), Operation::New),
+        b'c' => check(row.after(b"check")),
+        b'd' => declare(row.after(b"declare")),
+        b'r' => remove(row.after(b"remove")),
+        b'l' => lookup(row.after(b"lookup")),
+        b'f' => from_table(row.after(b"from")),
+        b't' => old(row.after(b"table ")),
         _ => Line::Unread,
     }
 }
 
 // By the second letter.
-fn set_or_share(row: &[u8]) -> Line {
-    match rows::byte(row, 1) {
-        b'e' => set(row),
-        b'h' => shares(row),
-        _ => swap(row),
+fn set_or_share(row: Reader) -> Line {
+    match row.byte() {
+        b'e' => set(row.after(b"et")),
+        b'h' => shares(row.after(b"hares")),
+        _ => whole(row.after(b"wap"), Line::Swap),
     }
 }
 
 // By the fifth letter.
-fn entry_or_entries(row: &[u8]) -> Line {
-    if rows::byte(row, 4) == b'i' {
-        return entries(row);
+fn entry_or_entries(row: Reader) -> Line {
+    match row.byte() {
+        b'i' => entries(row.after(b"ies")),
+        _ => entry(row.after(b"y")),
     }
-    entry(row)
 }
 
 // By the first letter after `table `.
-fn old(row: &[u8]) -> Line {
-    let at = rows::after_word(row, 0, b"table ");
-    if rows::byte(row, at) == b'c' {
-        return plain(
-            row,
-            rows::after_word(row, at, b"check"),
-            Operation::OldCheck,
-        );
+fn old(row: Reader) -> Line {
+    match row.byte() {
+        b'c' => asked(row.after(b"check"), Operation::OldCheck),
+        _ => old_lookup(row.after(b"lookup")),
     }
-    old_lookup(row, at)
+}
+
+// A line that ends after its parts.
+fn whole(row: Reader, line: Line) -> Line {
+    if row.ends() { line } else { Line::Unread }
+}
+
+fn asked(row: Reader, operation: Operation) -> Line {
+    whole(row, Line::Operation(operation))
 }
 
 // ---- what prepares the buffer
 
-fn buffer(row: &[u8]) -> Line {
-    let length = rows::natural(row, rows::after_word(row, 0, b"buffer "));
-    let byte = naturals::byte8(row, rows::after(row, length.next, b' '));
-    if rows::ends(row, byte.next) {
-        return Line::Buffer {
-            length: naturals::place_of(length.up),
-            byte: byte.value,
-        };
-    }
-    Line::Unread
+fn buffer(mut row: Reader) -> Line {
+    let line = Line::Buffer {
+        length: row.place(),
+        byte: row.byte8(),
+    };
+    whole(row, line)
 }
 
-fn set(row: &[u8]) -> Line {
-    let place = rows::natural(row, rows::after_word(row, 0, b"set "));
-    let byte = naturals::byte8(row, rows::after(row, place.next, b' '));
-    if rows::ends(row, byte.next) {
-        return Line::Setting(Setting::Byte {
-            place: naturals::place_of(place.up),
-            byte: byte.value,
-        });
-    }
-    Line::Unread
+fn set(mut row: Reader) -> Line {
+    let setting = Setting::Byte {
+        place: row.place(),
+        byte: row.byte8(),
+    };
+    whole(row, Line::Setting(setting))
 }
 
-fn entries(row: &[u8]) -> Line {
-    let place = rows::natural(row, rows::after_word(row, 0, b"entries "));
-    let first = rows::natural(row, rows::after(row, place.next, b' '));
-    let count = rows::natural(row, rows::after(row, first.next, b' '));
-    let code = naturals::byte8(row, rows::after(row, count.next, b' '));
-    if rows::ends(row, code.next) {
-        return Line::Setting(Setting::Entries {
-            place: naturals::place_of(place.up),
-            first: naturals::place_of(first.up),
-            count: naturals::place_of(count.up),
-            code: code.value,
-        });
-    }
-    Line::Unread
+fn entries(mut row: Reader) -> Line {
+    let setting = Setting::Entries {
+        place: row.place(),
+        first: row.place(),
+        count: row.place(),
+        code: row.byte8(),
+    };
+    whole(row, Line::Setting(setting))
 }
 
-fn shares(row: &[u8]) -> Line {
-    let place = rows::natural(row, rows::after_word(row, 0, b"shares "));
-    let league = naturals::byte8(row, rows::after(row, place.next, b' '));
-    let first = rows::natural(row, rows::after(row, league.next, b' '));
-    let count = rows::natural(row, rows::after(row, first.next, b' '));
-    let code = naturals::byte8(row, rows::after(row, count.next, b' '));
-    if rows::ends(row, code.next) {
-        return Line::Setting(Setting::Shares {
-            place: naturals::place_of(place.up),
-            league: league.value,
-            first: naturals::place_of(first.up),
-            count: naturals::place_of(count.up),
-            code: code.value,
-        });
-    }
-    Line::Unread
-}
-
-fn swap(row: &[u8]) -> Line {
-    if rows::ends(row, rows::after_word(row, 0, b"swap")) {
-        return Line::Swap;
-    }
-    Line::Unread
+fn shares(mut row: Reader) -> Line {
+    let setting = Setting::Shares {
+        place: row.place(),
+        league: row.byte8(),
+        first: row.place(),
+        count: row.place(),
+        code: row.byte8(),
+    };
+    whole(row, Line::Setting(setting))
 }
 
 // ---- the operations
 
-// A line that ends after its words.
-fn plain(row: &[u8], end: usize, operation: Operation) -> Line {
-    if rows::ends(row, end) {
-        return Line::Operation(operation);
-    }
-    Line::Unread
+fn check(mut row: Reader) -> Line {
+    let operation = Operation::Check(row.word32());
+    asked(row, operation)
 }
 
-fn check(row: &[u8]) -> Line {
-    let league = naturals::word32(row, rows::after_word(row, 0, b"check "));
-    plain(row, league.next, Operation::Check(league.value))
-}
-
-fn entry(row: &[u8]) -> Line {
-    let league = naturals::word32(row, rows::after_word(row, 0, b"entry "));
-    let place = rows::natural(row, rows::after(row, league.next, b' '));
-    let asked = Operation::Entry {
-        league: league.value,
-        place: naturals::place_of(place.up),
+fn entry(mut row: Reader) -> Line {
+    let operation = Operation::Entry {
+        league: row.word32(),
+        place: row.place(),
     };
-    plain(row, place.next, asked)
+    asked(row, operation)
 }
 
-fn declare(row: &[u8]) -> Line {
-    let league = naturals::word32(row, rows::after_word(row, 0, b"declare "));
-    let field = naturals::word32(row, rows::after(row, league.next, b' '));
-    let code = naturals::word32(row, rows::after(row, field.next, b' '));
-    let asked = Operation::Declare {
-        league: league.value,
-        field: field.value,
-        code: code.value,
+fn declare(mut row: Reader) -> Line {
+    let operation = Operation::Declare {
+        league: row.word32(),
+        field: row.word32(),
+        code: row.word32(),
     };
-    plain(row, code.next, asked)
+    asked(row, operation)
 }
 
-fn remove(row: &[u8]) -> Line {
-    let league = naturals::word32(row, rows::after_word(row, 0, b"remove "));
-    let field = naturals::word32(row, rows::after(row, league.next, b' '));
-    let asked = Operation::Remove {
-        league: league.value,
-        field: field.value,
+fn remove(mut row: Reader) -> Line {
+    let operation = Operation::Remove {
+        league: row.word32(),
+        field: row.word32(),
     };
-    plain(row, field.next, asked)
+    asked(row, operation)
 }
 
-fn lookup(row: &[u8]) -> Line {
-    let league = naturals::word32(row, rows::after_word(row, 0, b"lookup "));
-    let field = naturals::word32(row, rows::after(row, league.next, b' '));
-    let game = naturals::word32(row, rows::after(row, field.next, b' '));
-    let number = rows::whole32(row, rows::after(row, game.next, b' '));
-    let asked = Operation::Lookup {
-        league: league.value,
-        field: field.value,
-        game: game.value,
-        number: number.value,
+fn lookup(mut row: Reader) -> Line {
+    let operation = Operation::Lookup {
+        league: row.word32(),
+        field: row.word32(),
+        game: row.word32(),
+        number: row.whole32(),
     };
-    plain(row, number.next, asked)
+    asked(row, operation)
 }
 
-fn old_lookup(row: &[u8], at: usize) -> Line {
-    let field = naturals::word32(row, rows::after_word(row, at, b"lookup "));
-    let game = naturals::word32(row, rows::after(row, field.next, b' '));
-    let number = rows::whole32(row, rows::after(row, game.next, b' '));
-    let asked = Operation::OldLookup {
-        field: field.value,
-        game: game.value,
-        number: number.value,
+fn old_lookup(mut row: Reader) -> Line {
+    let operation = Operation::OldLookup {
+        field: row.word32(),
+        game: row.word32(),
+        number: row.whole32(),
     };
-    plain(row, number.next, asked)
+    asked(row, operation)
 }
 
-fn from_table(row: &[u8]) -> Line {
-    let length = rows::natural(row, rows::after_word(row, 0, b"from "));
-    let byte = naturals::byte8(row, rows::after(row, length.next, b' '));
-    if rows::ends(row, byte.next) {
-        return Line::Move {
-            length: naturals::place_of(length.up),
-            byte: byte.value,
-        };
-    }
-    Line::Unread
+fn from_table(mut row: Reader) -> Line {
+    let line = Line::Move {
+        length: row.place(),
+        byte: row.byte8(),
+    };
+    whole(row, line)
 }

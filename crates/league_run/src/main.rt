@@ -5,7 +5,7 @@
 
 use crate::lines::Line;
 use script::rooms::Rooms;
-use script::{running, table_answers, telling};
+use script::{preparing, running, table_answers, telling};
 use std::io;
 use std::io::{Read, Write};
 
@@ -63,7 +63,7 @@ fn moved<W: Write>(
         return telling::unread(out, row);
     }
     let target = &mut rooms.spare[..length];
-    target.fill(byte);
+    preparing::fill(target, byte);
     let told = operations::move_table(&rooms.room[..rooms.size], target);
     telling::table(out, row, told, target)?;
     if table_answers::is_number(told) {

@@ -39,6 +39,7 @@ fn seen_of_eu5(date: Eu5Date) -> ExpandedRawDate
     }
 }
 
+// Kept (point 2): (a) each arm calls the kind's own method, which is what is compared with the original.
 pub(crate) fn shown(kind: Kind, raw: Packed) -> ExpandedRawDate
     ensures { fields_of result ≡ unpacked (bits_of raw) }
 {

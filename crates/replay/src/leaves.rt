@@ -6,6 +6,7 @@ use julian::MonthDay;
 use scalar::Leading;
 
 // What is told.
+// Kept (point 1): (d) the answers of five functions in one type; an Option in a variant would be taken apart once more where it is told.
 #[derive(Clone, Copy)]
 pub(crate) enum LeafTold {
     Leading { value: i64, rest: usize },

@@ -16,6 +16,7 @@ use refusals::Refusal;
 use uniform_date::UniformDate;
 use vic3_date::Vic3Date;
 
+// Kept (point 2): (a) each arm calls the kind's own method, which is what is compared with the original.
 pub(crate) fn is_guessed(kind: Kind, raw: Packed) -> bool
     ensures { result ≡ is_guessed (bits_of raw) }
 {

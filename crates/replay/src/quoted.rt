@@ -44,7 +44,7 @@ pub(crate) fn text(s: &[u8], at: usize, out: &mut [u8]) -> Part<usize>
 {
     let mut place = rows::after(s, at, b'"');
     let mut length = 0;
-    // Kept (point 3): each turn goes one byte on or four, which no `for` counts.
+    // Kept (point 3): (d) each turn goes one byte on or four, which no `for` counts.
     while place < s.len() {
         if s[place] == b'"' {
             return Part {

@@ -6,6 +6,7 @@
 
 pub mod naturals;
 pub mod preparing;
+pub mod reader;
 pub mod rooms;
 pub mod running;
 pub mod table_answers;

@@ -1,6 +1,8 @@
 // The rooms that a script is run in: its buffer, and what a move goes into.
 ghost use Rattle.std.specs.Prelude.{◌≤◌, length};
 
+use crate::preparing;
+
 // The buffer is the front of a room, at first empty; the target of a move is the front of the spare one.
 #[derive(Drop)]
 pub struct Rooms<'a> {
@@ -24,7 +26,7 @@ impl<'a> Rooms<'a> {
         if self.room.len() < length {
             return false;
         }
-        self.room[..length].fill(byte);
+        preparing::fill(&mut self.room[..length], byte);
         self.size = length;
         true
     }
@@ -32,7 +34,7 @@ impl<'a> Rooms<'a> {
     // A target of so many bytes, as the buffer from then on.
     pub fn take(&mut self, length: usize) {
         if length <= self.room.len() && length <= self.spare.len() {
-            self.room[..length].copy_from_slice(&self.spare[..length]);
+            preparing::put(&mut self.room[..length], &self.spare[..length]);
             self.size = length;
         }
     }

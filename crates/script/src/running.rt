@@ -10,7 +10,7 @@ pub fn run<W: Write, F: FnMut(&mut W, &[u8]) -> io::Result<()>>(
 ) -> io::Result<()>
     requires { F.IsAlwaysCallable step }
 {
-    // Kept (point 3): `split_inclusive` is there for texts alone, and a row is a part of a slice of bytes.
+    // Kept (point 3): (d) `split_inclusive` is there for texts alone, and a row is a part of a slice of bytes.
     let mut at = 0;
     while at < script.len() {
         let end = rows::next_line(script, at);

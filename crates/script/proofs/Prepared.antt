@@ -1,34 +1,16 @@
--- What a turn of each loop of `preparing` comes to, what a whole copy is, and whether entries fit. Assumes nothing.
+-- What a turn of the loop over entries comes to, and whether entries fit. Assumes nothing.
 use mathlib.Core.Path.{◌≡◌, refl, sym, ap, ◌∙◌}
 use mathlib.Core.Bool.{true, false}
-use mathlib.Core.List.{List, [], ◌∷◌, ◌++◌, append-nil}
+use mathlib.Core.List.{List, [], ◌∷◌, ◌++◌}
 use Prim.Native.Nat.{ℕ, zero, suc, ◌+◌, ◌*◌, ◌/◌, ◌%◌, ◌<◌, ◌≤◌}
 use native.Mathlib.Nat.{add-zero}
 use native.Mathlib.Numerals.{add-one}
 use native.Mathlib.Omega.{arith}
 use borrow.Author.Tests.{le-leb, lt-leb}
-use lib.ListN.{length, take, drop, set, replicate}
-use lib.Seq.{sets, take-length, drop-length}
+use lib.ListN.{length, set}
+use lib.Seq.{sets}
 use Rattle.requests.proofs.OnLaid.StoreLaws.{sets_more}
 use Rattle.script.specs.Preparing.{entry_run, entries_fit}
-
--- ---- one byte all over
-
-fill_one : (s : List ℕ) (v i : ℕ) → i < length s → set (replicate i v ++ drop i s) i v ≡ replicate (suc i) v ++ drop (suc i) s
-fill_one [] v i h = absurd (omega arith)
-fill_one (a ∷ s) v zero h = refl
-fill_one (a ∷ s) v (suc i) h = ap (λ (r : List ℕ). v ∷ r) (fill_one s v i (omega arith))
-
-pub fill-turn : (s b : List ℕ) (v i : ℕ) → i < length s → b ≡ replicate i v ++ drop i s → set b i v ≡ replicate (i + 1) v ++ drop (i + 1) s
-fill-turn s b v i h e = rw (e, add-one i) (fill_one s v i h)
-
-pub fill_end : (s b : List ℕ) (v i : ℕ) → i ≡ length s → b ≡ replicate i v ++ drop i s → b ≡ replicate (length s) v
-fill_end s b v i n e = e ∙ rw (n, drop-length s) (append-nil (replicate (length s) v))
-
--- ---- a copy as long as the buffer
-
-pub put_whole : (b t : List ℕ) → length b ≡ length t → take (length t) t ++ drop (length t) b ≡ t
-put_whole b t e = rw (take-length t, ← e, drop-length b) (append-nil t)
 
 -- ---- entries
 

@@ -6,7 +6,6 @@ use native.Mathlib.Nat.{add-zero, add-mul, mul_right_comm}
 use native.Mathlib.Numerals.{add-one}
 use native.Mathlib.Omega.{arith}
 use lib.ListN.{length, take, get_or}
-use lib.Seq.{take-length}
 use Rattle.script.specs.Weighing.{weights_from}
 
 more : (s : List ℕ) (n i : ℕ) → i < length s → weights_from n (take (suc i) s) ≡ weights_from n (take i s) + (n + i) * get_or s i 0
@@ -28,9 +27,6 @@ turn s sum i w h e f =
     let y = (1 + i) * get_or s i 0 in
     let m : weights_from 1 (take (i + 1) s) ≡ x + y = rw (add-one i) (more s 1 i h) in
     omega (arith, m, e, f)
-
-pub end : (s : List ℕ) (sum i : ℕ) → i ≡ length s → sum ≡ weights_from 1 (take i s) % 4294967296 → sum ≡ weights_from 1 s % 4294967296
-end s sum i n e = rw (n, take-length s) at e
 
 -- a place may be taken modulo 2^32 first
 pub weight-of : (i b : ℕ) → (i % 4294967296 + 1) * b % 4294967296 ≡ (1 + i) * b % 4294967296

@@ -7,7 +7,7 @@ use mathlib.Core.List.{List, [], ◌∷◌}
 use Prim.Native.Nat.{ℕ, ◌+◌, ◌*◌, ◌-◌, ◌/◌, ◌≤◌, ◌<◌}
 use native.Mathlib.Nat.{add-zero}
 use native.Mathlib.Omega.{arith}
-use borrow.Author.Tests.{le-leb, lt-leb, eqb-true}
+use borrow.Author.Tests.{le-leb, eqb-true}
 use lib.Dec.{eqb}
 use lib.IntN.{ℤ}
 use lib.ListN.{length, get_or, take, drop, length-drop}
@@ -80,10 +80,6 @@ module _ (s : List ℕ) (at size : ℕ) (inside : at + size ≤ length s) where
       let q : at + (size - date_size + 2) ≡ d + 2 = omega arith in
       let r : d + 2 + 1 ≡ d + 3 = omega arith in
       rw (f, two_at (size - date_size) (omega arith), two_at (size - date_size + 2) (omega arith), p, q, r, two (get_or s d 0) (get_or s (d + 1) 0), two (get_or s (d + 2) 0) (get_or s (d + 3) 0))
-
-  -- its field number, where its size has none, and where it has one
-  pub field-none : size < field_record_size → field_sized size piece ≡ no_field
-  field-none h = rw (lt-leb field_record_size size h)
 
   pub field-there : field_record_size ≤ size → field_sized size piece ≡ get_or s (at + 1) 0 * 256 + get_or s (at + 2) 0
   field-there h =

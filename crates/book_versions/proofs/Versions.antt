@@ -6,10 +6,9 @@ use Prim.Native.Nat.{ℕ, ◌≤◌, ◌<◌}
 use native.Mathlib.Omega.{arith}
 use borrow.Author.Tests.{le-leb, eqb-true, eqb-false}
 use lib.Dec.{eqb}
-use lib.ListN.{length, get_or-eq_default}
 use Rattle.rules.specs.Refusals.{Answer, Gives, Refused, given, not_of_kind}
 use Rattle.rules.specs.Kinds.{handed}
-use Rattle.rules.specs.Book.{Format, length_size, head_size, version_of, check, entry_at, append_answer, append_buffer, kind_code, version1}
+use Rattle.rules.specs.Book.{Format, version_of, check, entry_at, append_answer, append_buffer, kind_code, version1}
 use Rattle.rules.proofs.OnKinds.PackLaws.{handed-by}
 use Rattle.rules.proofs.OnBook.EntryLaws.{code-back}
 use Rattle.requests.specs.Second.{FieldEntry, most_field, version2, field_entry_bytes, field_entry_for}
@@ -48,10 +47,6 @@ module _ (k : Kind) (field : ℕ) (d : Packed) (h : field < 65536) where
   entry-not g = rw (code-back (kind_of k), le-leb field most_field (let z : field ≤ most_field = omega arith in z), handed-by (kind_of k) (bits_of d) g)
 
 -- ---- either version, by what the test of the version byte says
-
--- a buffer without a version byte has none
-pub no-version : (s : List ℕ) → length s < head_size → false ≡ eqb (version_of s) version2.frame.version
-no-version s h = rw (get_or-eq_default s 0 {n = length_size} (omega arith))
 
 module _ (s : List ℕ) {t : Bool} (e : t ≡ eqb (version_of s) version2.frame.version) where
   module _ (is : t ≡ true) where

@@ -27,7 +27,7 @@ fn raw<D: PdsDate>(read: Result<D, Refusal>) -> Result<Packed, Refusal>
     Ok(date.raw())
 }
 
-// Kept (point 2): the two matches differ in the method that an arm calls at a type of its own, and no closure is generic over a type.
+// Kept (point 2): (d) the two matches differ in the method that an arm calls at a type of its own, and no closure is generic over a type.
 pub fn parse(kind: Kind, s: &[u8]) -> Result<Packed, Refusal>
     ensures { parsed_as result ≡ store (read_text (kind_of kind) s.now) }
 {

@@ -10,6 +10,7 @@ ghost use Rattle.codes.specs.Views.{lettered_as, coded_as, date_number};
 
 use kinds::{Kind, Packed};
 
+// Kept (point 4): (d) a kind has two numbers, its letter and its code, and `u8::from(kind)` would not say which is meant.
 pub fn letter(kind: Kind) -> u8
     ensures { result ≡ letter (kind_of kind) }
 {

@@ -2,19 +2,19 @@
 -- of a kind that counts days has. Assumes nothing.
 use mathlib.Core.Path.{◌≡◌, sym, ap, ◌∙◌}
 use mathlib.Core.Bool.{true}
-use Prim.Native.Nat.{ℕ, ◌+◌, ◌-◌, ◌*◌, ◌/◌, ◌%◌, ◌≤◌, ◌<◌}
+use Prim.Native.Nat.{ℕ, ◌+◌, ◌-◌, ◌/◌, ◌%◌, ◌≤◌, ◌<◌}
 use native.Mathlib.Omega.{arith}
-use lib.IntN.{ℤ, pos, nat_abs, sub_ℕ, ◌+ℤ◌, ◌-ℤ◌}
+use lib.IntN.{ℤ, pos, nat_abs, sub_ℕ, ◌+ℤ◌}
 use lib.Signed.{quot_z, rem_z}
 use mir.Syntax.{w32}
 use mir.Val.{to_z, of_z, SFits}
 use mir.Facts.{to_z-of_z}
 use Rattle.sign.specs.Halves.{up, dn, Halved}
-use Rattle.sign.proofs.Laws.{same, ints, one_side, yes_lt, no_lt, up-sub, dn-sub}
+use Rattle.sign.proofs.Laws.{same, ints, one_side, up-sub, dn-sub}
 use Rattle.rules.specs.Refusals.{Answer, Gives, given}
 use Rattle.rules.specs.Calendar.{month_day, month_length}
 use Rattle.rules.specs.Kinds.{Kind, kR, kD, kH, kU, kE, kV, Fields, of_kind, Stored, store_like, handed, of_date}
-use Rattle.rules.specs.Days.{add_days, day_number_at, counts_days, day_fields, date_within, summed, summed_hour}
+use Rattle.rules.specs.Days.{add_days, counts_days, day_fields, date_within, summed, summed_hour}
 use Rattle.rules.proofs.OnKinds.KindLaws.{keeps_months, fit, month-fits}
 use Rattle.rules.proofs.OnDays.OrderLaws.{hour-small}
 use Rattle.rules.proofs.OnKinds.PackLaws.{handed-tells}
@@ -31,17 +31,6 @@ halved z e f p q =
     record { up_is = e; dn-is = f; up-most = p; dn-most = q; one = omega (arith, one_side z) }
 
 -- ---- the day number of a year's day
-
-module _ {y : ℤ} {u d : ℕ} (h : Halved 32767 y u d) (k : ℕ) (l : k < 365) where
-  pub number-below : 0 < d → Halved 11960683 (day_number_at y k) 0 (365 * d + k)
-  number-below p =
-      rw (yes_lt y (pos 0) (simp (h.up_is, h.dn-is) (omega arith)))
-      (halved _ (simp (ints, h.up_is, h.dn-is) (omega arith)) (simp (ints, h.up_is, h.dn-is) (omega arith)) (omega arith) (omega arith))
-
-  pub number-above : d ≤ 0 → Halved 11960683 (day_number_at y k) (365 * u + k) 0
-  number-above p =
-      rw (no_lt y (pos 0) (simp (h.up_is, h.dn-is) (omega arith)))
-      (halved _ (simp (ints, h.up_is, h.dn-is) (omega arith)) (simp (ints, h.up_is, h.dn-is) (omega arith)) (omega arith) (omega arith))
 
 -- ---- the date of a day number, of whose halves one is 0
 
@@ -62,9 +51,6 @@ module _ (u d : ℕ) (o : u - d ≡ u) where
 
 pub sum_is : {s t : ℕ} {n m : ℤ} {u d v e : ℕ} → Halved s n u d → Halved t m v e → sub_ℕ (u + v) (d + e) ≡ n +ℤ m
 sum_is h k = same _ _ (simp (ints, h.up_is, h.dn-is, k.up_is, k.dn-is) (omega arith))
-
-pub gap_is : {s t : ℕ} {n m : ℤ} {u d v e : ℕ} → Halved s n u d → Halved t m v e → sub_ℕ (v + d) (e + u) ≡ m -ℤ n
-gap_is h k = same _ _ (simp (ints, h.up_is, h.dn-is, k.up_is, k.dn-is) (omega arith))
 
 -- the number by itself on its side of 0
 pub side-below : (u d : ℕ) → u < d → sub_ℕ 0 (d - u) ≡ sub_ℕ u d

@@ -95,6 +95,7 @@ fn date_of(up: u64, dn: u64, hour: u8, mark: u16) -> Packed
 
 // What a sum is, whatever it counts: whether the number up - dn lies in the range from -low to high, outside it, or outside 32 bits.
 // The range is narrower than 32 bits, so that one in range is found after two tests.
+// Kept (point 5): (d) `up` and `dn` are any two naturals here, no `Halves` of which one is 0; a second struct would be made for a call.
 pub fn judge(up: u64, dn: u64, low: u64, high: u64) -> Result<(), Refusal>
     requires { (up ≤ 68719476736) × (dn ≤ 68719476736) × (low ≤ 2147483648) × (high ≤ 2147483647) }
     ensures { (date : ℤ → Fields) → judged_as result date (sub_ℕ up dn) ≡ date_within low high date (sub_ℕ up dn) }

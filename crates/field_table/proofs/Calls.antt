@@ -77,10 +77,6 @@ module _ (s : List ℕ) where
     unfolding entry_at
     entry-refused place = rw (entries-refused e)
 
-    pub look-refused : (field game : ℕ) (z : ℤ) → Refused n ≡ in_bits (lookup table1 s field game z)
-    unfolding lookup
-    look-refused field game z = rw (entries-refused e)
-
     pub declare-not : (field code : ℕ) → (Refused n ≡ counted (declared table1 s field code)) × (s ≡ declare_buffer table1 s field code)
     unfolding declared counted table_buffer
     declare-not field code = rw (entries-refused e) (refl, refl)

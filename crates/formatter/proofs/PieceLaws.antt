@@ -51,10 +51,6 @@ pub two-room : {t : Bool} (s : Style) (n m : ℕ) → n < 100 → separated s n 
     → length (separated s n) ≤ m → 3 ≤ m
 two-room s n m h e p r = rw (e, p, filled-two n h) at r
 
-pub one-room : {t : Bool} (s : Style) (n m : ℕ) → separated s n ≡ cond t (s.separator ∷ filled 2 n) (s.separator ∷ digit n ∷ []) → t ≡ false
-    → length (separated s n) ≤ m → 2 ≤ m
-one-room s n m e p r = rw (e, p) at r
-
 -- ---- a year
 
 -- by its halves: from 0 on it is what is up, before it is what is down
@@ -70,10 +66,6 @@ year-below a b (negsuc n) h z = rw h.dn-is
 pub plain-filled : (y : ℤ) → filled_year 1 1 y ≡ plain_year y
 plain-filled (pos n) = filled-one n
 plain-filled (negsuc n) = rw (filled-one (suc n))
-
-pub iso-filled : (y : ℤ) → filled_year 4 3 y ≡ iso_year y
-iso-filled (pos n) = refl
-iso-filled (negsuc n) = refl
 
 -- that of the exchange text has a plus above 9999
 pub exchange-filled : {t u d : ℕ} (y : ℤ) → Halved t y u d → u ≤ 9999 → filled_year 4 5 y ≡ exchange_year y

@@ -19,7 +19,6 @@ use Rattle.requests.specs.Second.{FieldEntry}
 use Rattle.requests.specs.Both.{both}
 use Rattle.requests.specs.Gaps.{placed_from}
 use Rattle.requests.specs.GapReport.{report_text, report}
-use Rattle.requests.proofs.OnGapReport.RefusalLaws.{refused-too, bad-too}
 use Rattle.gap_report.specs.Walk.{list_of, records_in}
 use Rattle.gap_report.specs.Figures.{kind_figures, together, figures_of, figures, figures_answer, figures_over}
 use Rattle.gap_report.proofs.FigureLaws.{six-long}
@@ -40,14 +39,6 @@ module _ (s : List ℕ) where
   unfolding check figures
   figures-given n e = counted-them (records (both s) s) (figures_of (both s)) n e
 
-  pub figures-refused : (n : ℕ) → check (both s) s ≡ Refused n → figures s ≡ Refused n
-  unfolding check figures
-  figures-refused n e = refused-too (records (both s) s) length (figures_of (both s)) n e
-
-  pub figures-bad : (n place : ℕ) → check (both s) s ≡ RefusedAt n place → figures s ≡ RefusedAt n place
-  unfolding check figures
-  figures-bad n place e = bad-too (records (both s) s) length (figures_of (both s)) n place e
-
   -- by the refusal that the code has
   module _ (e : Refusal) (h : check (both s) s ≡ refusal_as e) where
     none-told : records (both s) s ≡ refusal_as e
@@ -65,13 +56,6 @@ module _ (s : List ℕ) where
 -- ---- a refusal, and the buffer stays
 
 module _ (a : Answer (List ℕ)) (out : List ℕ) where
-  pub text-refused : (n : ℕ) → a ≡ Refused n → (Refused n ≡ put_answer a out) × (out ≡ put_buffer a out)
-  unfolding put_answer put_buffer
-  text-refused n e = rw e (refl, refl)
-
-  pub text-bad : (n place : ℕ) → a ≡ RefusedAt n place → (RefusedAt n place ≡ put_answer a out) × (out ≡ put_buffer a out)
-  unfolding put_answer put_buffer
-  text-bad n place e = rw e (refl, refl)
 
   pub text-refusing : (e : Refusal) → a ≡ refusal_as e → (refusal_as e ≡ put_answer a out) × (out ≡ put_buffer a out)
   unfolding put_answer put_buffer
@@ -89,10 +73,6 @@ module _ (a : Answer (List ℤ)) (out : List ℤ) where
   pub numbers-refused : (n : ℕ) → a ≡ Refused n → Answered (Refused n) out
   unfolding figures_answer figures_over
   numbers-refused n e = rw e (refl, refl)
-
-  pub numbers-bad : (n place : ℕ) → a ≡ RefusedAt n place → Answered (RefusedAt n place) out
-  unfolding figures_answer figures_over
-  numbers-bad n place e = rw e (refl, refl)
 
   pub numbers-refusing : (e : Refusal) → a ≡ refusal_as e → Answered (refusal_as e) out
   unfolding figures_answer figures_over

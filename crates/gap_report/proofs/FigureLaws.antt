@@ -1,10 +1,10 @@
 -- The figures in the lent numbers: six at a time, one kind after the other. Assumes nothing.
 use mathlib.Core.Path.{◌≡◌, refl, sym, ap, ◌∙◌}
 use mathlib.Core.List.{List, [], ◌∷◌, ◌++◌}
-use Prim.Native.Nat.{ℕ, suc, ◌+◌, ◌*◌, ◌/◌, ◌≤◌}
+use Prim.Native.Nat.{ℕ, ◌+◌, ◌*◌, ◌/◌, ◌≤◌}
 use native.Mathlib.Omega.{arith}
 use lib.IntN.{ℤ, pos, sub_ℕ}
-use lib.ListN.{length, take, drop, set, length-append, length-drop}
+use lib.ListN.{length, take, drop, length-append, length-drop}
 use lib.Seq.{sets, sets-eq, take_at, drop_at, drop-drop}
 use Rattle.sign.proofs.Laws.{same, ints}
 use Rattle.rules.specs.Kinds.{Kind, Stored, stored, unpacked}
@@ -25,16 +25,6 @@ pub number-alone : (d : Stored) → date_number d / 4 * 4 ≡ date_number (store
 number-alone d = rw (word-alone d) (omega arith)
 
 -- ---- six numbers
-
-pub six-sets : (s : List ℤ) (at : ℕ) (a b c d e f : ℤ) →
-    set (set (set (set (set (set s at a) (at + 1) b) (at + 2) c) (at + 3) d) (at + 4) e) (at + 5) f ≡ sets s at (a ∷ b ∷ c ∷ d ∷ e ∷ f ∷ [])
-six-sets s at a b c d e f =
-    let i : at + 1 ≡ suc at = omega arith in
-    let j : at + 2 ≡ suc (suc at) = omega arith in
-    let k : at + 3 ≡ suc (suc (suc at)) = omega arith in
-    let l : at + 4 ≡ suc (suc (suc (suc at))) = omega arith in
-    let m : at + 5 ≡ suc (suc (suc (suc (suc at)))) = omega arith in
-    rw (i, j, k, l, m)
 
 pub six-long : (k : Kind) (ps : List Placed) → length (kind_figures k ps) ≡ 6
 unfolding kind_figures

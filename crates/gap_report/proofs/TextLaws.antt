@@ -3,21 +3,18 @@
 use mathlib.Core.Path.{◌≡◌, ap}
 use mathlib.Core.Bool.{true, false}
 use mathlib.Core.List.{List, [], ◌∷◌, ◌++◌, append-nil}
-use Prim.Native.Nat.{ℕ, suc, ◌+◌, ◌-◌, ◌^◌, ◌≤◌, ◌<◌}
+use Prim.Native.Nat.{ℕ, ◌+◌, ◌-◌, ◌^◌, ◌≤◌, ◌<◌}
 use native.Mathlib.Omega.{arith}
 use borrow.Rule.Slice.PartMut.{put_mid}
-use borrow.Author.Tests.{lt-ltb, le-ltb}
 use lib.Dec.{eqb}
-use lib.IntN.{sub_ℕ}
 use lib.ListN.{length, take, drop, set}
-use Rattle.rules.specs.Words.{bytes}
 use Rattle.rules.specs.Kinds.{Kind}
 use Rattle.rules.specs.Days.{counts_days}
 use Rattle.rules.specs.Spelling.{decimal, dotted}
 use Rattle.rules.specs.Listing.{letter, line_end}
 use Rattle.rules.proofs.OnSpelling.DecimalLaws.{digits-most}
 use Rattle.rules.proofs.OnSpelling.WriteLaws.{byte-tail, wrote, wrote-byte, wrote-part, wrote-placed}
-use Rattle.requests.specs.GapReport.{spaced, signed}
+use Rattle.requests.specs.GapReport.{spaced}
 use Rattle.digits.specs.Places.{placed}
 use Rattle.gap_report.specs.Walk.{Tallied, tally_steps, tally_rest, tally_line}
 
@@ -54,13 +51,6 @@ module _ (l₀ : List ℕ) {l : List ℕ} {n m : ℕ} (t : List ℕ) (w : Writte
 -- one of 64 bits has at most 20 digits
 pub digits-few : (n : ℕ) → n < 10 ^ 20 → length (decimal n) ≤ 20
 digits-few n h = digits-most n h 19 h
-
--- a difference with its sign
-pub signed_below : (up dn : ℕ) → up < dn → signed (sub_ℕ up dn) ≡ bytes "-" ++ decimal (dn - up)
-signed_below up dn h = let e : suc (dn - suc up) ≡ dn - up = omega arith in rw (lt-ltb up dn h, e)
-
-pub signed_above : (up dn : ℕ) → dn ≤ up → signed (sub_ℕ up dn) ≡ decimal (up - dn)
-signed_above up dn h = rw (le-ltb up dn h)
 
 -- ---- the texts with and without what stands in some lines only
 

@@ -1,5 +1,5 @@
 -- The walk for a kind: what the code finds of a record is what the definitions say, one record after the other. Assumes nothing.
-use mathlib.Core.Path.{◌≡◌, refl, sym, ap, subst, ◌∙◌}
+use mathlib.Core.Path.{◌≡◌, refl, sym, ap, ◌∙◌}
 use mathlib.Core.Bool.{Bool, true, false, cond}
 use mathlib.Core.List.{List, [], ◌∷◌}
 use Prim.Native.Nat.{ℕ, zero, suc, ◌+◌, ◌-◌, ◌≤◌, ◌<◌}
@@ -8,8 +8,7 @@ use native.Mathlib.Omega.{arith}
 use lib.Dec.{eqb}
 use lib.IntN.{ℤ, pos, nat_abs, sub_ℕ, ◌-ℤ◌}
 use lib.ListN.{length, drop}
-use Rattle.sign.specs.Halves.{up, dn}
-use Rattle.sign.proofs.Laws.{same, ints, one_side, up-sub, dn-sub}
+use Rattle.sign.proofs.Laws.{same, ints, up-sub, dn-sub}
 use Rattle.rules.specs.Refusals.{Answer, Gives, Refused, RefusedAt, ◌then◌, given, not_of_kind}
 use Rattle.rules.specs.Calendar.{lengths, month_length, sum_first, first_day, day_of_year}
 use Rattle.rules.specs.Kinds.{Kind, kR, kD, kH, kU, kE, kV, Fields, Stored, fits_kind, of_kind, made, unpacked, handed, of_dates}
@@ -81,10 +80,6 @@ module _ (k : Kind) (d : Stored) (g : given (handed k d) ≡ true) where
   pub number-none : Refused not_of_kind ≡ of_dates k zero_date d (λ f h. difference k f h) → number_at 11960684 ≡ number_for k (unpacked d)
   number-none e = at_zero ∙ ap or_zero e ∙ told-number
 
--- counted from the least
-pub counted-from : (z : ℤ) → Near z → number_at (11960684 + up z - dn z) ≡ z
-counted-from z n = let o = one_side z in same _ _ (simp ints (omega arith))
-
 -- ---- how far one number is from another
 
 -- two numbers counted from one place lie as far apart as what is counted
@@ -96,13 +91,6 @@ apart a b =
 
 pub abs-sub : (a b : ℕ) → nat_abs (sub_ℕ b a) ≡ (b - a) + (a - b)
 abs-sub a b = simp ints refl
-
-module _ (a b : ℕ) where
-  pub far-below : b < a → a - b ≡ nat_abs (number_at b -ℤ number_at a)
-  far-below h = rw (apart a b, abs-sub a b) (omega arith)
-
-  pub far-above : a ≤ b → b - a ≡ nat_abs (number_at b -ℤ number_at a)
-  far-above h = rw (apart a b, abs-sub a b) (omega arith)
 
 -- ---- one record more
 
@@ -118,10 +106,6 @@ module _ (k : Kind) (t : Tallied) (place : ℕ) {x : Answer FieldEntry} (e : Fie
   pub seen_other : same_kind k e.kind ≡ false → t ≡ tally k t (if_of_kind k place x [])
   unfolding tally
   seen_other s = rw (g, s)
-
--- its date is one of the kind
-pub sound-of : (k : Kind) {x : Answer FieldEntry} (e : FieldEntry) → x ≡ Gives e → Sound x → same_kind k e.kind ≡ true → given (handed k e.date) ≡ true
-sound-of k e g h s = subst (λ (j : Kind). given (handed j e.date) ≡ true) (same_kind_lem k e.kind s) (subst Sound g h)
 
 -- the code's kinds are one where their own are
 pub other-kind : (k j : Kinds.Kind) → (j ≡ k → ⊥) → same_kind (kind_of k) (kind_of j) ≡ false

@@ -3,12 +3,11 @@
 use mathlib.Core.Path.{◌≡◌, sym, ap, ◌∙◌}
 use mathlib.Core.Bool.{true}
 use Prim.Native.Nat.{ℕ, ◌+◌, ◌-◌, ◌*◌, ◌/◌, ◌%◌, ◌≤◌, ◌<◌}
-use native.Mathlib.Nat.{zero-div, le_of_dvd}
+use native.Mathlib.Nat.{le_of_dvd}
 use native.Mathlib.Omega.{arith}
-use lib.IntN.{ℤ, pos, sub_ℕ, ◌+ℤ◌, ◌-ℤ◌, ◌*ℤ◌}
-use lib.Signed.{quot_z}
+use lib.IntN.{ℤ, pos, sub_ℕ, ◌+ℤ◌, ◌*ℤ◌}
 use Rattle.sign.specs.Halves.{up, dn, Halved}
-use Rattle.sign.proofs.Laws.{same, ints, up-sub, dn-sub, up-mul, dn-mul, sub-below, sub-above}
+use Rattle.sign.proofs.Laws.{same, up-sub, dn-sub, up-mul, dn-mul}
 use Rattle.sign.proofs.Balance.{sum-even}
 use Rattle.rules.specs.Refusals.{Gives}
 use Rattle.rules.specs.Calendar.{month_day, month_length}
@@ -22,7 +21,7 @@ use Rattle.requests.proofs.OnHours.NumberLaws.{since-even, hour-in}
 use Rattle.std.specs.Prelude.{⊤, Result}
 use Rattle.refusals.specs.declared.Refusal.{Refusal}
 use Rattle.day_count.specs.Views.{judged_as}
-use Rattle.day_count.proofs.Laws.{in-month, gap_is, side-below, side-above}
+use Rattle.day_count.proofs.Laws.{in-month}
 
 -- ---- a date's number
 
@@ -69,19 +68,6 @@ sum_is {s} {t} {n} {m} {u} {d} {v} {e} b h k =
     let x = h.up_is in let y = h.dn-is in
     let a = up-sub (u + b * v) (d + b * e) in let c = dn-sub (u + b * v) (d + b * e) in
     same _ _ (omega (arith, sum-even n (pos b *ℤ m)))
-
-quot_below : (n b : ℕ) → sub_ℕ 0 (n / b) ≡ quot_z (sub_ℕ 0 n) (pos b)
-quot_below n b = rw (sub-below n, sub-below (n / b)) (same _ _ (simp (ints, zero-div) (omega arith)))
-
-quot_above : (n b : ℕ) → sub_ℕ (n / b) 0 ≡ quot_z (sub_ℕ n 0) (pos b)
-quot_above n b = rw (sub-above n, sub-above (n / b)) (same _ _ (simp (ints, zero-div) (omega arith)))
-
-module _ {s t : ℕ} {n m : ℤ} {u d v e : ℕ} (b : ℕ) (h : Halved s n u d) (k : Halved t m v e) where
-  pub gap_below : v + d < e + u → sub_ℕ 0 ((e + u - (v + d)) / b) ≡ quot_z (m -ℤ n) (pos b)
-  gap_below l = quot_below (e + u - (v + d)) b ∙ ap (λ (z : ℤ). quot_z z (pos b)) (side-below (v + d) (e + u) l ∙ gap_is h k)
-
-  pub gap-above : e + u ≤ v + d → sub_ℕ ((v + d - (e + u)) / b) 0 ≡ quot_z (m -ℤ n) (pos b)
-  gap-above l = quot_above (v + d - (e + u)) b ∙ ap (λ (z : ℤ). quot_z z (pos b)) (side-above (v + d) (e + u) l ∙ gap_is h k)
 
 -- ---- a kind that counts in blocks, and a date of it that was handed in
 

@@ -3,7 +3,7 @@ use mathlib.Core.Path.{◌≡◌, refl}
 use mathlib.Core.Bool.{Bool, true, false, ◌&&◌, beq}
 use Prim.Native.Nat.{ℕ, ◌/◌, ◌%◌, ◌^◌, ◌≤◌, ◌<◌}
 use lib.Dec.{T, leb, eqb}
-use borrow.Author.Tests.{le-leb, lt-leb}
+use borrow.Author.Tests.{le-leb}
 use Rattle.rules.specs.Kinds.{Kind, kR, kD, kH, kU, kE, kV, hour_fits}
 use Rattle.rules.proofs.Shared.Table.{upto, below}
 use Rattle.kinds.specs.HourBits.{hour_bits}
@@ -31,9 +31,6 @@ tested kV = tt
 module _ (k : Kind) (h : ℕ) (l : h < 256) where
   agree : bit k h ≡ hour_fits k h
   agree = same_bool (bit k h) (hour_fits k h) (below (agrees k) 256 (tested k) h l)
-
-  pub late : 31 < h → false ≡ hour_fits k h
-  late b = rw (← agree, lt-leb h 31 b)
 
   pub by_bit : h ≤ 31 → eqb (hour_bits k / 2 ^ h % 2) 1 ≡ hour_fits k h
   by_bit b = rw (← agree, le-leb h 31 b)

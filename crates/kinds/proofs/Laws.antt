@@ -82,12 +82,6 @@ module _ (k : Kind) (d e : Stored) where
   abbrev pub compared : Answer Order
   compared = of_dates k d e (λ f g. Gives (order f g))
 
-  pub first-refused : given (handed k d) ≡ false → compared ≡ Refused not_of_kind
-  first-refused p = rw (handed-by k d p)
-
-  pub second-refused : given (handed k d) ≡ true → given (handed k e) ≡ false → compared ≡ Refused not_of_kind
-  second-refused p q = rw (handed-by k d p, handed-by k e q)
-
   pub in_order : given (handed k d) ≡ true → given (handed k e) ≡ true → compared ≡ Gives (order (unpacked d) (unpacked e))
   in_order p q = rw (handed-by k d p, handed-by k e q)
 

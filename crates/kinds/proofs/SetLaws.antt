@@ -1,21 +1,15 @@
 -- A field set whose numbers are wider than those of any date. Assumes nothing.
-use mathlib.Core.Path.{◌≡◌, refl, sym}
+use mathlib.Core.Path.{◌≡◌, refl}
 use mathlib.Core.Bool.{Bool, true, false}
 use Prim.Native.Nat.{ℕ, ◌≤◌, ◌<◌}
-use lib.IntN.{ℤ, sub_ℕ}
 use Rattle.std.specs.Prelude.{Result, Ok, Err, None, OkIff}
 use Rattle.std.specs.Result.{result_ok}
 use Rattle.std.proofs.Common.{rules}
-use Rattle.sign.specs.Halves.{up, dn, Halved}
-use Rattle.sign.proofs.Laws.{as-sub}
+use Rattle.sign.specs.Halves.{up, dn}
 use Rattle.rules.specs.Refusals.{Gives, Refused, demand}
 use Rattle.rules.specs.Kinds.{Kind, Fields, of_kind, made}
 use Rattle.rules.proofs.OnKinds.KindLaws.{fit}
 use Rattle.rules.proofs.OnDays.OrderLaws.{day-small, hour-small}
-
--- a number of its halves
-pub halves-back : {top : ℕ} {z : ℤ} {u d : ℕ} → Halved top z u d → sub_ℕ u d ≡ z
-halves-back {z = z} h = rw (← h.up_is, ← h.dn-is) (sym (as-sub z))
 
 -- what the fields of every date are below
 pub record Narrow (f : Fields) : Type 0 where

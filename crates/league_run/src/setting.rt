@@ -44,6 +44,7 @@ pub(crate) fn set(buffer: &mut [u8], setting: Setting) -> bool {
     }
 }
 
+// Kept (point 2): (d) beside `preparing::entries`: a size for both would ask for laws of its own about a loop of four stores.
 fn shares(
     buffer: &mut [u8],
     place: usize,

@@ -34,17 +34,9 @@ module _ (s : List ℕ) {n : ℕ} (e : Refused n ≡ counted (shared_entries s))
   refusing : shared_entries s ≡ Refused n
   refusing = count-refused s n (sym e)
 
-  pub check-not : (league : ℕ) → Refused n ≡ counted (own_entries s league)
-  unfolding own_entries counted
-  check-not league = rw refusing
-
   pub entry-not : (league place : ℕ) → Refused n ≡ own_entry_at s league place
   unfolding own_entries own_entry_at
   entry-not league place = rw refusing
-
-  pub look-not : (league field game : ℕ) (z : ℤ) → own_lookup s league field game z ≡ Refused n
-  unfolding own_lookup
-  look-not league field game z = rw refusing
 
   pub declare-not : (league field code : ℕ) →
       (Refused n ≡ counted (own_of league (own_declaration s league field code))) × (s ≡ own_declare_buffer s league field code)

@@ -1,11 +1,11 @@
 -- The entries of a league among n that ascend, by the places of two keys; whether all are shared by the two; and what a league is told of a
 -- change, by how many it had. Assumes nothing.
-use mathlib.Core.Path.{◌≡◌, sym, ◌∙◌}
-use mathlib.Core.Bool.{Bool, true, false, ◌&&◌, ◌||◌, or-true}
+use mathlib.Core.Path.{◌≡◌, ◌∙◌}
+use mathlib.Core.Bool.{Bool, true, false, ◌&&◌, ◌||◌}
 use mathlib.Core.List.{List, [], ◌∷◌}
 use Prim.Native.Nat.{ℕ, suc, ◌+◌, ◌/◌, ◌%◌, ◌≤◌, ◌<◌}
 use native.Mathlib.Omega.{arith}
-use borrow.Author.Tests.{eq-eqb, ne_eqb, le-leb, lt-leb, lt-ltb, le-ltb}
+use borrow.Author.Tests.{eq-eqb, ne_eqb, le-leb, lt-leb, le-ltb}
 use lib.Dec.{leb, ltb, eqb}
 use lib.ListN.{length, drop}
 use Rattle.std.specs.Prelude.{Result, Ok, Err, is_ok}
@@ -65,9 +65,6 @@ module _ (n : ℕ) (s : List ℕ) where
   module _ (held key : ℕ) where
     abbrev May : Bool → Type 0
     May t = t ≡ (some (standing (key_in 3) key rs) || ltb held share_most)
-
-    pub may-share : held < share_most → May true
-    may-share l = rw (lt-ltb held share_most l) (sym (or-true (some (standing (key_in 3) key rs))))
 
     module _ (a : ascends (key_in 3) 0 rs ≡ true) where
       pub may-over : {i : ℕ} → Ok i ≡ find_of 3 key rs → May true

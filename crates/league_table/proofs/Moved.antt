@@ -14,7 +14,7 @@ use Rattle.rules.specs.Words.{big_bytes}
 use Rattle.rules.specs.Refusals.{Answer, Gives, Refused}
 use Rattle.rules.specs.Book.{length_size, head_size, pieces}
 use Rattle.rules.proofs.OnBook.PieceLaws.{piece-count}
-use Rattle.rules.proofs.OnBook.FrameLaws.{Sensible, same-refusal}
+use Rattle.rules.proofs.OnBook.FrameLaws.{Sensible}
 use Rattle.refusals.specs.declared.Refusal.{Refusal}
 use Rattle.refusals.specs.Answers.{refusal_as}
 use Rattle.refusals.proofs.RefusalLaws.{refused, refusal-then}
@@ -53,10 +53,6 @@ module _ (s t : List ℕ) where
   -- the answer is x, and u the target then
   abbrev pub Moves : Answer ℕ → List ℕ → Type 0
   Moves x u = (x ≡ counted (moved_entries s t)) × (u ≡ moved_buffer s t)
-
-  pub moved-not : {n : ℕ} → Refused n ≡ check table1 s → Moves (Refused n) t
-  unfolding moved_entries counted table_buffer
-  moved-not {n} e = rw (same-refusal (entries table1 s) length n (sym e)) (refl, refl)
 
   pub moved-refusing : (e : Refusal) → refusal_as e ≡ check table1 s → Moves (refusal_as e) t
   unfolding moved_entries counted

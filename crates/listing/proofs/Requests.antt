@@ -74,9 +74,6 @@ module _ (s : List ℕ) (k : Kind) (w : Way) (line : read_line s ≡ Gives (reco
   by-refusal (Refused m) n (refuses h) e q = let same : n ≡ m = ap (back_by (λ (x : Stored). 0) (λ i. i)) q in rw same (answered (Refused m) e)
   by-refusal (RefusedAt m i) n o e q = elim o [ ]
 
-  pub refusal-output : (n : ℕ) → Refused n ≡ store_with (mark_by w) (date_by w k (drop 4 s)) → line_output s ≡ refused_text (letter k) n ++ line_end
-  refusal-output n q = by-refusal (date_by w k (drop 4 s)) n told refl q
-
   -- the same of the code's refusal, by its number
   by-error : (a : Answer Fields) (e : Refusal) → Outcome (RefusedBy w) (Dated k) a → date_by w k (drop 4 s) ≡ a → refusal_as e ≡ store_with (mark_by w) a → line_output s ≡ refused_text (letter k) (number_of e) ++ line_end
   unfolding date_text

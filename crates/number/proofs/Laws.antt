@@ -125,9 +125,6 @@ module _ (k : Kind) (d : Stored) where
   unfolding write_number
   write-lacks a = rw a (lacking k d)
 
-  pub write-refused : handed k d ≡ Refused not_of_kind → wrote ≡ Refused not_of_kind
-  write-refused e = rw e
-
   pub write-some : (f : Fields) → writes_numbers k ≡ true → handed k d ≡ Gives f →
       wrote ≡ Gives (straight_at f.year (day_of_year f.month f.day) (written_hour k f.hour))
   unfolding write_number straight

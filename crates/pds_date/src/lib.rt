@@ -30,8 +30,8 @@ pub struct Guessed<D> {
 }
 
 // A date of one of the six kinds.
-// Kept (point 2): the six structs, each with its two constants, are a form that document 01 names; what they repeat are these four lines.
-// Kept (point 4): `raw` and `of_raw` stay the trait's own: `From` would tell generic code nothing of the bits without a law beside.
+// Kept (point 2): (a) the six structs, each with its two constants, are a form that document 01 names; what they repeat are these four lines.
+// Kept (point 4): (d) `raw` and `of_raw` stay the trait's own: `From` would tell generic code nothing of the bits without a law beside.
 pub trait PdsDate: Copy {
     ghost KIND: { Kind };
 

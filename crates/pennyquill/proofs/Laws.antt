@@ -1,10 +1,10 @@
 -- The boundary's laws: a kind by its code, and a date's number handed in again. Assumes nothing.
-use mathlib.Core.Path.{◌≡◌, sym, ap, subst, ◌∙◌}
+use mathlib.Core.Path.{◌≡◌, sym, ap, ◌∙◌}
 use mathlib.Core.Bool.{true}
 use Prim.Native.Nat.{ℕ, ◌/◌, ◌%◌, ◌<◌}
 use native.Mathlib.Omega.{arith}
 use Rattle.rules.specs.Refusals.{Answer, Gives}
-use Rattle.rules.specs.Kinds.{Kind, Fields, Stored, of_kind, word_of, mark_allowed, stored_with, store_like, handed}
+use Rattle.rules.specs.Kinds.{Kind, Fields, Stored, of_kind, word_of, mark_allowed, stored_with, handed}
 use Rattle.rules.specs.Book.{kind_code, kind_of_code, twos_complement, entry_for}
 use Rattle.rules.proofs.OnKinds.KindLaws.{fit}
 use Rattle.rules.proofs.OnKinds.PackLaws.{marked-back, word_fits}
@@ -31,10 +31,6 @@ unfolding field_entry_for
 field-entry-code code {k = k} field d e = rw (e, code-back k)
 
 -- ---- a date's number
-
--- what is handed out like a date is handed out like that of the number that crossed
-pub like-date : (next : Stored → Answer Fields) {x : Answer Stored} {d e : Stored} → d ≡ e → x ≡ store_like d (next d) → x ≡ store_like e (next e)
-like-date next {x} same is = subst (λ (d : Stored). x ≡ store_like d (next d)) same is
 
 -- what one function hands out as a date of a kind, with its mark, the next takes as that date
 pub number-back : (k : Kind) (mark : ℕ) (f : Fields) → mark < 4 → mark_allowed mark ≡ true → of_kind k f ≡ true →

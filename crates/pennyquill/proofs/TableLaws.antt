@@ -116,10 +116,6 @@ module _ (s : List ℕ) (game : ℕ) (fields : List ℕ) (numbers : List ℤ) (o
   unfolding lookups
   no-game e g = rw (← e, ← g)
 
-  pub no_table : {m : ℕ} → Refused m ≡ check table1 s → lookups s game fields numbers out ≡ Refused m
-  unfolding lookups
-  no_table e = rw (← e)
-
   -- at a refusal nothing is written
   pub unanswered : (x : Answer ℕ) → given x ≡ false → answered x s game fields numbers out ≡ out
   unanswered (Gives n) e = search (rules, e)

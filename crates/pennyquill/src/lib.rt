@@ -16,6 +16,7 @@ mod versions;
 
 // Refusal 0: value is the answer, a date's number, a length, a room, a count or a place. At 11 and 21 value is the record's place, and
 // at every other refusal 0.
+// Kept (point 1): (a) the C interface: the header has the refusal's number and the value in two fields.
 #[repr(C)]
 #[derive(Clone, Copy)]
 pub struct PqAnswer {

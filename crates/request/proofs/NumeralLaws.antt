@@ -1,23 +1,22 @@
 -- A line's number is a leading number of few bytes, after which nothing follows, and which fits. Assumes nothing.
 use mathlib.Core.Path.{◌≡◌, refl, sym, ap, subst}
-use mathlib.Core.Bool.{Bool, true, false, cond, not, ◌&&◌}
+use mathlib.Core.Bool.{Bool, true, false, cond, ◌&&◌}
 use mathlib.Core.List.{List, [], ◌∷◌}
-use Prim.Native.Nat.{ℕ, suc, ◌-◌, ◌≤◌, ◌<◌}
+use Prim.Native.Nat.{ℕ, suc, ◌-◌}
 use native.Mathlib.Omega.{arith}
 use lib.Dec.{T, leb, eqb}
 use lib.IntN.{ℤ, pos, nat_abs}
-use lib.ListN.{length, get_or}
+use lib.ListN.{length}
 use lib.Signed.{le_z}
 use borrow.Author.Tests.{le-leb, eqb-true, ne_eqb}
 use mir.Syntax.{w32}
 use mir.Val.{SFits}
 use Rattle.std.specs.Prelude.{Result, Ok, Err, OkIff}
 use Rattle.std.specs.Result.{result_ok}
-use Rattle.sign.specs.Halves.{up, dn}
 use Rattle.sign.proofs.Laws.{le-true, one_side, abs_is}
 use Rattle.rules.specs.Words.{within, minus, fits32}
-use Rattle.rules.specs.Refusals.{Answer, Gives, Refused, ◌then◌, demand, not_text}
-use Rattle.rules.specs.Text.{Read, is_digit, digits, after_digits, decimal_value, natural, signed, at_end, leading}
+use Rattle.rules.specs.Refusals.{Gives, Refused, ◌then◌, demand, not_text}
+use Rattle.rules.specs.Text.{is_digit, digits, after_digits, decimal_value, natural, signed, at_end, leading}
 use Rattle.rules.specs.Listing.{digits_as_number, line_number}
 use Rattle.rules.proofs.OnKinds.KindLaws.{left, right}
 use Rattle.scalar.specs.Number.{most63, leading_number}
@@ -115,17 +114,6 @@ line-number [] = refl
 line-number (b ∷ s) = by_first b s (eqb b 45) (eqb b 43) (is_digit b) refl refl refl
 
 -- ---- how many bytes there are
-
-pub few-none : (t : List ℕ) → length t < 1 → few_digits t ≡ false
-unfolding few_digits
-few-none [] h = refl
-few-none (b ∷ s) h = absurd (omega arith)
-
-pub few-some : (t : List ℕ) → 1 ≤ length t →
-    few_digits t ≡ (not (eqb (get_or t 0 0) 43) && within 1 10 (cond (eqb (get_or t 0 0) 45) (length t - 1) (length t)))
-unfolding few_digits
-few-some [] h = absurd (omega arith)
-few-some (b ∷ s) h = let e : suc (length s) - 1 ≡ length s = omega arith in rw e
 
 -- ---- whether it fits
 

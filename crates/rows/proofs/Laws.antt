@@ -7,11 +7,11 @@ use native.Mathlib.Nat.{one-le-pow, le-mul_of_pos_right}
 use native.Mathlib.Omega.{arith}
 use lib.Dec.{leb, lit<}
 use lib.ListN.{length, get_or, drop, length-drop}
-use borrow.Author.Tests.{le-leb, lt-leb, leb-true, leb-false}
+use borrow.Author.Tests.{le-leb, lt-leb}
 use Rattle.spans.specs.Bytes.{slice, index_of}
 use Rattle.rules.specs.Refusals.{Gives, Refused, ◌then◌, demand, not_text}
-use Rattle.rules.specs.Text.{Read, digits, after_digits, at_end}
-use Rattle.rules.proofs.Shared.Rests.{here, past, to_end}
+use Rattle.rules.specs.Text.{Read, digits, after_digits}
+use Rattle.rules.proofs.Shared.Rests.{here, to_end}
 use Rattle.scalar.specs.Number.{most63, value_from, partial_of}
 use Rattle.scalar.proofs.Laws.{goes_on, stops-low, stops-high, stops_end}
 use Rattle.rows.specs.Rows.{after_byte, after_word, most_of_row, row_digits, row_length}
@@ -22,13 +22,6 @@ pub read_of : {A : Type 0} {a b : A} (s : List ℕ) → a ≡ b → ◌≡◌ {A
 read_of s e = λ i. record { value = e i; rest = s }
 
 -- ---- the end of a row
-
-end_by : (t : Bool) (s : List ℕ) (i : ℕ) → leb (length s) i ≡ t → at_end (drop i s) ≡ t
-end_by true s i e = rw (past s i (leb-true _ _ e))
-end_by false s i e = rw (here s i (leb-false _ _ e))
-
-pub at-end : (s : List ℕ) (i : ℕ) → at_end (drop i s) ≡ leb (length s) i
-at-end s i = end_by (leb (length s) i) s i refl
 
 -- ---- a word, byte by byte
 

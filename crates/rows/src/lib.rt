@@ -7,7 +7,7 @@ ghost use Rattle.rows.specs.Rows.{first_byte, after_byte, after_word, ends_row, 
 ghost use Rattle.rows.specs.Views.{number_as, whole_as};
 
 // A place past the end of every slice.
-// Kept (point 1): readers are nested, place in place, and a row is tested once at its end; an Option would be taken apart at each.
+// Kept (point 1): (d) readers are nested, place in place, and a row is tested once at its end; an Option would be taken apart at each.
 pub const NOWHERE: usize = 0xffff_ffff_ffff_ffff;
 
 // up - dn, of which one is 0, and the place after it.

@@ -1,18 +1,17 @@
 -- Signed numbers and the bits that a local holds of them, once for every width. Assumes nothing.
 use mathlib.Core.Path.{◌≡◌, refl, ap, sym, ◌∙◌, subst}
-use mathlib.Core.Bool.{Bool, true, false}
+use mathlib.Core.Bool.{true, false}
 use Prim.Native.Nat.{ℕ, suc, ◌+◌, ◌-◌, ◌^◌, ◌≤◌, ◌<◌, zero-le}
 use native.Mathlib.Nat.{lt_of_le_of_lt}
 use native.Mathlib.Omega.{arith}
-use lib.IntN.{ℤ, pos, negsuc, nat_abs, sub_ℕ}
-use lib.Signed.{mag, lt_z, non_neg}
+use lib.IntN.{ℤ, pos, negsuc}
+use lib.Signed.{mag, lt_z}
 use lib.Dec.{T}
-use mir.Syntax.{Width, w64}
-use mir.Val.{to_z, of_z, bits, hbits, Fits, SFits}
-use mir.ValLaws.{to_z-of_z, to_z_pos, to_z-neg, pow-bits}
+use mir.Syntax.{Width}
+use mir.Val.{to_z, of_z, bits, hbits, SFits}
+use mir.ValLaws.{to_z-of_z, to_z_pos, pow-bits}
 use borrow.Author.Tests.{ltb-true}
-use Rattle.sign.specs.Halves.{up, dn, Halved}
-use Rattle.sign.proofs.Laws.{same, ints}
+use Rattle.sign.specs.Halves.{up, dn}
 
 -- ---- what a test `x < 0` tells of a signed parameter, whose local holds its bits `of_z w x`
 
@@ -40,34 +39,9 @@ below w (negsuc n) f e =
     let k : (2 ^ bits w - 1) - (2 ^ bits w - suc n) ≡ n = omega arith in
     record { reads = rw k (to_z_pos w n s); none = refl; some = omega arith; small = s }
 
--- what a cast of a signed number to an unsigned type asks
-pub as-nat : (w : Width) {z : ℤ} {n : ℕ} → z ≡ pos n → n < 2 ^ bits w → T (non_neg z) × Fits w (nat_abs z)
-as-nat w e h = rw e (tt, record { fits = h })
-
 -- ---- the halves of a number, by the branch taken
 
-pub halves-below : (w : Width) (x : ℤ) (top : ℕ) → top + 1 ≡ 2 ^ hbits w → Below w x →
-    Halved top x 0 (nat_abs (to_z w ((2 ^ bits w - 1) - of_z w x)) + 1)
-halves-below w x top e b =
-    rw b.reads
-    (record { up_is = b.none; dn-is = b.some; up-most = omega arith; dn-most = omega arith; one = omega arith })
-
-pub halves-above : (w : Width) (x : ℤ) (top : ℕ) → top + 1 ≡ 2 ^ hbits w → Above w x → Halved top x (nat_abs (to_z w (of_z w x))) 0
-halves-above w x top e b =
-    rw b.reads
-    (record { up_is = refl; dn-is = b.none; up-most = omega arith; dn-most = omega arith; one = omega arith })
-
 -- ---- a number of its halves, by the branch taken: the bits of `!(d - u - 1)`, and of `u - d`
-
-pub int-below : (w : Width) (u d : ℕ) → u < d → d ≤ u + 2 ^ hbits w → to_z w ((2 ^ bits w - 1) - (d - u - 1)) ≡ sub_ℕ u d
-int-below w u d l h =
-    let p = pow-bits w in
-    let n : d - u - 1 < 2 ^ hbits w = omega arith in
-    let k : (2 ^ bits w - 1) - (d - u - 1) ≡ 2 ^ bits w - suc (d - u - 1) = omega arith in
-    rw k (to_z-neg w (d - u - 1) n ∙ same _ _ (simp ints (omega arith)))
-
-pub int-above : (w : Width) (u d : ℕ) → d ≤ u → u < d + 2 ^ hbits w → to_z w (u - d) ≡ sub_ℕ u d
-int-above w u d l h = to_z_pos w (u - d) (omega arith) ∙ same _ _ (simp ints (omega arith))
 
 -- ---- for the callers
 
@@ -92,16 +66,4 @@ fits-tells w (negsuc n) f = record { up-less = lt_of_le_of_lt zero-le f.sfits; d
 pub same_bits : (w : Width) {a b : ℤ} → SFits w a → SFits w b → of_z w a ≡ of_z w b → a ≡ b
 same_bits w {a} {b} f g e = sym (to_z-of_z w a f) ∙ ap (to_z w) e ∙ to_z-of_z w b g
 
--- what a test `a < b` of two signed locals decides
-pub less-held : (w : Width) (a b : ℤ) {t : Bool} → mag a < 2 ^ hbits w → mag b < 2 ^ hbits w →
-    lt_z (to_z w (of_z w a)) (to_z w (of_z w b)) ≡ t → lt_z a b ≡ t
-less-held w a b p q e = rw (held w {z = a} p, held w {z = b} q) at e
-
 -- ---- a number of 64 bits that fits fewer is the same number there
-
-module _ (w : Width) (x : ℤ) (f : SFits w64 x) (p : up x < 2 ^ hbits w) (q : dn x ≤ 2 ^ hbits w) where
-  pub narrow-fits : SFits w (to_z w64 (of_z w64 x))
-  narrow-fits = rw (to_z-of_z w64 x f) (fits-from w x p q)
-
-  pub narrow-same : to_z w (of_z w (to_z w64 (of_z w64 x))) ≡ x
-  narrow-same = rw (to_z-of_z w64 x f) (to_z-of_z w x (fits-from w x p q))

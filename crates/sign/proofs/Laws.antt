@@ -1,12 +1,12 @@
 -- The laws of `up` and `dn`: each operation and each test of ℤ, said of naturals, which `omega` reads.
 use mathlib.Core.Path.{◌≡◌, refl, ap, sym, ◌∙◌, subst}
-use mathlib.Core.Bool.{Bool, true, false, not, cond}
+use mathlib.Core.Bool.{Bool, true, false, cond}
 use Prim.Native.Nat.{ℕ, zero, suc, ◌+◌, ◌-◌, ◌*◌, ◌/◌, ◌%◌, ◌≤◌, ◌<◌}
 use native.Mathlib.Omega.{arith}
 use lib.IntN.{ℤ, pos, negsuc, neg_ℤ, sub_ℕ, nat_abs, ◌+ℤ◌, ◌*ℤ◌}
 use lib.Signed.{lt_z, le_z, non_neg, quot_z, rem_z, ◌≤ℤ◌, ◌<ℤ◌}
 use lib.Dec.{T, ltb, leb, leb-suc-suc, leb→le, ltb→lt}
-use native.Mathlib.Nat.{add-zero, zero-add, zero-div, zero-mod, mul-sub}
+use native.Mathlib.Nat.{add-zero, zero-add, zero-div, zero-mod}
 use borrow.Author.Tests.{ltb-true, ltb-false, leb-true, leb-false, lt-ltb, le-ltb, le-leb, lt-leb}
 use Rattle.sign.specs.Halves.{up, dn}
 
@@ -128,11 +128,6 @@ le-true a b e = leb-true _ _ (sym (le_z-is a b) ∙ e)
 pub le-false : (a b : ℤ) → le_z a b ≡ false → up b + dn a < up a + dn b
 le-false a b e = leb-false _ _ (sym (le_z-is a b) ∙ e)
 
--- a definition's `le_z` from the code's test `<`
-pub le-by : (a b : ℤ) {t : Bool} → lt_z a b ≡ t → le_z b a ≡ not t
-le-by a b {t = true} e = no_le b a (lt-true a b e)
-le-by a b {t = false} e = yes_le b a (lt-false a b e)
-
 -- the sign
 pub yes-nonneg : (a : ℤ) → dn a ≡ 0 → non_neg a ≡ true
 yes-nonneg (pos n) h = refl
@@ -161,15 +156,6 @@ abs_is (negsuc n) = omega arith
 pub ruleset ints = (up-add, dn-add, up-sub, dn-sub, up_neg, dn-neg, up-mul, dn-mul, up-quot, dn-quot, up-rem, dn-rem, abs_is)
 
 -- ---- from three nested operations on, one operation at a time: an integer as a difference of naturals
-
-pub as-sub : (a : ℤ) → a ≡ sub_ℕ (up a) (dn a)
-as-sub a = let o = one_side a in same _ _ (simp ints (omega arith))
-
-pub sub-add : (a b n : ℕ) → sub_ℕ a b +ℤ pos n ≡ sub_ℕ (a + n) b
-sub-add a b n = same _ _ (simp ints (omega arith))
-
-pub sub-mul : (k a b : ℕ) → pos k *ℤ sub_ℕ a b ≡ sub_ℕ (k * a) (k * b)
-sub-mul k a b = same _ _ (simp (ints, mul-sub) (omega arith))
 
 -- a number of its halves, of which one is 0
 pub sub-below : (n : ℕ) → sub_ℕ 0 n ≡ neg_ℤ (pos n)

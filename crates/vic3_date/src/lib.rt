@@ -32,7 +32,7 @@ impl Vic3Date {
         },
     };
 
-    // Kept (point 2): H's hours and V's blocks have names of their own in document 01 and at the C boundary; the one function of both is
+    // Kept (point 2): (a) H's hours and V's blocks have names of their own in document 01 and at the C boundary; the one function of both is
     // `hour_count::add`, and `until` of the next.
     // A new date, moved by blocks of six hours, with the mark of the old one, which stays.
     pub fn add_blocks(self, blocks: i32) -> Result<Vic3Date, Refusal>

@@ -1,19 +1,19 @@
 -- A text after its leading number, by the code's tests. Assumes nothing.
 use mathlib.Core.Path.{◌≡◌, refl, sym}
-use mathlib.Core.Bool.{Bool, true, false}
+use mathlib.Core.Bool.{Bool, true, false, and-false}
 use mathlib.Core.List.{List}
 use Prim.Native.Nat.{ℕ, ◌≤◌, ◌<◌}
 use native.Mathlib.Omega.{arith}
 use lib.IntN.{ℤ, pos}
-use lib.Signed.{le_z}
-use mir.Syntax.{w16, w32}
+use lib.Signed.{lt_z, le_z}
+use mir.Syntax.{w32}
 use mir.Val.{to_z, of_z, SFits}
 use mir.Facts.{to_z-of_z}
 use Rattle.std.specs.Prelude.{Some, None, Result, Ok, Err, OkIff}
 use Rattle.std.specs.Result.{result_ok}
 use lib.ListN.{length, drop}
 use Rattle.sign.specs.Halves.{up, dn}
-use Rattle.sign.proofs.Laws.{ints, one_side, le-true, yes_le}
+use Rattle.sign.proofs.Laws.{ints, one_side, lt-true, le-true, yes_le, no_le}
 use Rattle.sign.proofs.Bits.{fits-from, fits-tells}
 use Rattle.rules.specs.Words.{minus, within_z, fits16, fits32}
 use Rattle.rules.specs.Refusals.{Answer, Gives, Refused, ◌then◌, not_text}
@@ -27,8 +27,14 @@ use Rattle.rules.proofs.Shared.Rests.{here, past}
 -- ---- whether the leading number fits 16, or 32, bits
 
 module _ (y : ℤ) (lo hi : ℕ) where
-  in-range : (up y ≤ hi) × (dn y ≤ lo) → within_z (minus lo) (pos hi) y ≡ true
-  in-range h = rw (yes_le (minus lo) y (simp ints (omega (arith, one_side y))), yes_le y (pos hi) (omega (arith, one_side y)))
+  pub too-low : lt_z y (minus lo) ≡ true → within_z (minus lo) (pos hi) y ≡ false
+  too-low e = rw (no_le (minus lo) y (lt-true y (minus lo) e))
+
+  pub too-high : lt_z (pos hi) y ≡ true → within_z (minus lo) (pos hi) y ≡ false
+  too-high e = rw (no_le y (pos hi) (lt-true (pos hi) y e), and-false (le_z (minus lo) y))
+
+  is_within : (up y ≤ hi) × (dn y ≤ lo) → within_z (minus lo) (pos hi) y ≡ true
+  is_within h = rw (yes_le (minus lo) y (simp ints (omega (arith, one_side y))), yes_le y (pos hi) (omega (arith, one_side y)))
 
   fits_in : within_z (minus lo) (pos hi) y ≡ true → (up y ≤ hi) × (dn y ≤ lo)
   fits_in e =
@@ -40,22 +46,18 @@ by-test : {A : Type 0} (t : Bool) → (t ≡ true → A) → (A → ⊥) → t �
 by-test true holds never = absurd (never (holds refl))
 by-test false holds never = refl
 
--- by the library's conversion to 32, or to 16, bits
+-- by the library's conversion to 32 bits
 module _ {E : Type 0} (y : ℤ) (r : Result ℤ E) where
   pub held32 : {n : ℤ} → OkIff r (SFits w32 y) y → Some n ≡ result_ok r → (fits32 y ≡ true) × (to_z w32 (of_z w32 n) ≡ y)
   held32 = by r
     where
       by : {n : ℤ} (r : Result ℤ E) → OkIff r (SFits w32 y) y → Some n ≡ result_ok r → (fits32 y ≡ true) × (to_z w32 (of_z w32 n) ≡ y)
-      by {n} (Ok x) told e = let t = fits-tells w32 y told.0 in let same : n ≡ y = cc in (in-range y 2147483648 2147483647 (omega arith), rw same (to_z-of_z told.0))
+      by {n} (Ok x) told e = let t = fits-tells w32 y told.0 in let same : n ≡ y = cc in (is_within y 2147483648 2147483647 (omega arith), rw same (to_z-of_z told.0))
       by (Err f) told e = cc
 
   pub not-held32 : OkIff r (SFits w32 y) y → None ≡ result_ok r → fits32 y ≡ false
   not-held32 told e =
       by-test (fits32 y) (λ p. let t = fits_in y 2147483648 2147483647 p in fits-from w32 y (omega arith) (omega arith)) (outside (SFits w32 y) y r told (sym e))
-
-  pub not-held16 : OkIff r (SFits w16 y) y → None ≡ result_ok r → fits16 y ≡ false
-  not-held16 told e =
-      by-test (fits16 y) (λ p. let t = fits_in y 32768 32767 p in fits-from w16 y (omega arith) (omega arith)) (outside (SFits w16 y) y r told (sym e))
 
 -- ---- a number text
 

@@ -41,8 +41,15 @@ fn number_text(kind: Kind, value: i64) -> Option<Packed>
 pub fn settle_year(kind: Kind, year: i64, parts: Parts) -> Option<Packed>
     ensures { made_as not_text result ≡ store (settled (kind_of kind) not_text (record { year = year; month = parts.month; day = parts.day; hour = parts.hour })) }
 {
+    // Kept (point 4): (a) the must-fail edit `year_of_15_bits` lowers this bound, which `try_from` would hide.
+    if year < -32768 {
+        return None;
+    }
+    if 32767 < year {
+        return None;
+    }
     let fields = ExpandedRawDate {
-        year: i16::try_from(year).ok()?,
+        year: year as i16,
         month: parts.month,
         day: parts.day,
         hour: parts.hour,

@@ -3,6 +3,7 @@
 
 use std::io;
 
+// Kept (point 2): (a) the gate runs a program on one stored input, so this `main` stands in four crates, over four inputs.
 fn main(rt: HostRuntime) -> io::Result<()> {
     let mut book = intake::room::<28677>();
     let mut report = intake::room::<714>();

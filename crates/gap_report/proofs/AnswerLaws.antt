@@ -56,7 +56,6 @@ module _ (s : List ℕ) where
 -- ---- a refusal, and the buffer stays
 
 module _ (a : Answer (List ℕ)) (out : List ℕ) where
-
   pub text-refusing : (e : Refusal) → a ≡ refusal_as e → (refusal_as e ≡ put_answer a out) × (out ≡ put_buffer a out)
   unfolding put_answer put_buffer
   text-refusing e h = rw h (sym (refusal-then e _), by (refusal_as e) (refused _ e))

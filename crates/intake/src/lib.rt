@@ -1,14 +1,17 @@
 // Reads what a program is given into a room that is lent, so that no program allocates.
 #![tactic(auto)]
 
-ghost use Rattle.std.specs.Prelude.{◌≡◌, ◌≤◌, ◌<◌, length, take, IfOk, OnErr};
-ghost use Rattle.std.specs.Io.KnownBytes.{Consumes, IsAtEnd};
+ghost use Rattle.std.specs.Prelude.{◌≡◌, ◌≤◌, ◌<◌, length, take, IfOk, OnOk, OnErr};
+ghost use Rattle.std.specs.Io.KnownBytes.{Appends, Consumes, IsAtEnd};
+ghost use Rattle.intake.specs.Rooms.{zeros};
 
 use std::io;
 use std::io::{Read, Write};
 
-// A room of so many bytes, each 0. Its contract says nothing: an `ensures` on an array of a program's length runs the checker out of stack.
-pub fn room<const N: usize>() -> [u8; N] {
+// A room of so many bytes, each 0.
+pub fn room<const N: usize>() -> [u8; N]
+    ensures { result ≡ zeros N }
+{
     [0u8; N]
 }
 
@@ -42,6 +45,11 @@ pub fn answer<R: Read, W: Write, F: FnOnce(&[u8], &mut [u8]) -> usize>(
 ) -> io::Result<()>
     requires callable { (s : _) (o : _) → length o.now ≡ length output.old → F.pre answer s o }
     requires within { (s : _) (o : _) (m : _) (p : _) → length o.now ≡ length output.old → F.post answer s o m p → m ≤ length output.old }
+    ensures { OnOk result ((s : _) × (o : _) × (m : _) × (p : _) × (s.now ≡ take (length s.now) input.new)
+        × Consumes (R.remaining reader.old) (R.remaining reader.new) s.now
+        × (length s.now < length input.old → IsAtEnd (R.remaining reader.new))
+        × (o.now ≡ output.old) × F.post answer s o m p × (p.now ≡ output.new)
+        × Appends (W.contents writer.old) (W.contents writer.new) (take m output.new)) }
 {
     let n = read_full(reader, input)?;
     let m = answer(&input[..n], output);

@@ -1,2 +1,3 @@
 pub mod Prepared
+pub mod Told
 pub mod Weighed

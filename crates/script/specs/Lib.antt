@@ -1,4 +1,7 @@
 pub mod Naturals
 pub mod Preparing
+pub mod Reader
+pub mod Rooms
 pub mod TableAnswers
+pub mod Telling
 pub mod Weighing

@@ -1,5 +1,6 @@
 // The rooms that a script is run in: its buffer, and what a move goes into.
-ghost use Rattle.std.specs.Prelude.{◌≤◌, length};
+ghost use Rattle.std.specs.Prelude.{◌≡◌, ◌≤◌, ◌&&◌, cond, leb, ◌++◌, length, replicate, drop};
+ghost use Rattle.script.specs.Rooms.{fronted};
 
 use crate::preparing;
 
@@ -13,7 +14,11 @@ pub struct Rooms<'a> {
 }
 
 impl<'a> Rooms<'a> {
-    pub fn new(room: &'a mut [u8], spare: &'a mut [u8]) -> Self {
+    pub fn new(room: &'a mut [u8], spare: &'a mut [u8]) -> Self
+        ensures room { result.room.now ≡ room.old }
+        ensures size { result.size ≡ 0 }
+        ensures spare { result.spare.now ≡ spare.old }
+    {
         Rooms {
             room,
             size: 0,
@@ -22,25 +27,40 @@ impl<'a> Rooms<'a> {
     }
 
     // A buffer of so many bytes, each this one. Says whether there is room for it.
-    pub fn start(&mut self, length: usize, byte: u8) -> bool {
-        if self.room.len() < length {
+    pub fn start(&mut self, long: usize, byte: u8) -> bool
+        ensures value { result ≡ leb long (length self.old.room.now) }
+        ensures room_after { self.new.room.now ≡ cond result (replicate long byte ++ drop long self.old.room.now) self.old.room.now }
+        ensures size_after { self.new.size ≡ cond result long self.old.size }
+        ensures spare_after { self.new.spare.now ≡ self.old.spare.now }
+    {
+        if self.room.len() < long {
             return false;
         }
-        preparing::fill(&mut self.room[..length], byte);
-        self.size = length;
+        preparing::fill(&mut self.room[..long], byte);
+        self.size = long;
         true
     }
 
     // A target of so many bytes, as the buffer from then on.
-    pub fn take(&mut self, length: usize) {
-        if length <= self.room.len() && length <= self.spare.len() {
-            preparing::put(&mut self.room[..length], &self.spare[..length]);
-            self.size = length;
+    pub fn take(&mut self, long: usize)
+        ensures room_after { self.new.room.now ≡ cond (leb long (length self.old.room.now) && leb long (length self.old.spare.now)) (fronted long self.old.spare.now self.old.room.now) self.old.room.now }
+        ensures size_after { self.new.size ≡ cond (leb long (length self.old.room.now) && leb long (length self.old.spare.now)) long self.old.size }
+        ensures spare_after { self.new.spare.now ≡ self.old.spare.now }
+    {
+        if long <= self.room.len() && long <= self.spare.len() {
+            let target = &mut self.spare[..long];
+            preparing::put(&mut self.room[..long], target);
+            self.size = long;
         }
     }
 
     // Exchanges the bytes of the buffer and as many of the spare room. Says whether that has so many.
-    pub fn swap(&mut self) -> bool {
+    pub fn swap(&mut self) -> bool
+        ensures value { result ≡ leb self.old.size (length self.old.spare.now) }
+        ensures room_after { self.new.room.now ≡ cond result (fronted self.old.size self.old.spare.now self.old.room.now) self.old.room.now }
+        ensures size_after { self.new.size ≡ self.old.size }
+        ensures spare_after { self.new.spare.now ≡ cond result (fronted self.old.size self.old.room.now self.old.spare.now) self.old.spare.now }
+    {
         if self.spare.len() < self.size {
             return false;
         }

@@ -1,3 +1,4 @@
 pub mod Prepared
 pub mod Told
+pub mod Turns
 pub mod Weighed

@@ -1,4 +1,6 @@
 // A script, run line by line.
+ghost use Rattle.script.specs.Running.{CallsAt, InTurn};
+
 use std::io;
 use std::io::Write;
 
@@ -9,6 +11,7 @@ pub fn run<W: Write, F: FnMut(&mut W, &[u8]) -> io::Result<()>>(
     mut step: F,
 ) -> io::Result<()>
     requires { F.IsAlwaysCallable step }
+    ensures { (n : _) × (last : F) × InTurn (CallsAt (λ f o s r o' f'. F.step f o s r o' f')) n step out.old script.now result last out.new }
 {
     // Kept (point 3): (d) `split_inclusive` is there for texts alone, and a row is a part of a slice of bytes.
     let mut at = 0;

@@ -13,7 +13,7 @@ pub fn run<W: Write, F: FnMut(&mut W, &[u8]) -> io::Result<()>>(
     requires { F.IsAlwaysCallable step }
     ensures { (n : _) × (last : F) × InTurn (CallsAt (λ f o s r o' f'. F.step f o s r o' f')) n step out.old script.now result last out.new }
 {
-    // Kept (point 3): (d) `split_inclusive` is there for texts alone, and a row is a part of a slice of bytes.
+    // To do (point 3): `split_inclusive` of slices gives the rows; its contract is to be met with that of `next_line`.
     let mut at = 0;
     while at < script.len() {
         let end = rows::next_line(script, at);

@@ -70,7 +70,7 @@ impl Format {
     }
 
     // The number of entries with a smaller key, by halving.
-    // Kept (point 6): (a) its contract is for keys of every size, so the entries are no slice of arrays that `partition_point` takes.
+    // Kept (point 6): (a) its clause and the laws of `Finds` hold for keys of each size up to four: no slice of arrays for `partition_point`.
     pub fn place_of(self, b: &[u8], n: usize, key: usize) -> usize
         requires room { Room self.key_size n (length b.now) }
         requires b_value { ascends (key_in self.key_size) 0 (entries_in self.key_size n b.now) ≡ true }

@@ -24,7 +24,7 @@ pub fn read_full<R: Read>(reader: &mut R, room: &mut [u8]) -> io::Result<usize>
     ensures err { OnErr result (length room.new ≡ length room.old) }
 {
     let mut filled = 0;
-    // Kept (point 3): each turn goes as far as the reader gives, which no `for` counts, and `read_exact` says nothing of a short input.
+    // Kept (point 3): (d) each turn goes as far as the reader gives, which no `for` counts, and `read_exact` says nothing of a short input.
     while filled < room.len() {
         let n = reader.read(&mut room[filled..])?;
         if n == 0 {

@@ -11,7 +11,7 @@ pub(crate) fn measure(s: &[u8]) -> usize
 {
     let mut room = [0u8; 40];
     let mut total = 0;
-    // Kept (point 3): (d) `split` of the library gives a last empty line after a final byte 10, which `lines` of `rules` has not.
+    // To do (point 3): `split_inclusive` of slices gives the lines with their ends; what each prints is to be proved of these.
     let mut at = 0;
     while at < s.len() {
         let end = spans::find(s, at, s.len(), crate::LINE_END);
@@ -48,7 +48,7 @@ pub(crate) fn put_lines(s: &[u8], out: &mut [u8]) -> usize
     ensures value { result ≡ length (printed s.now) }
     ensures out_after { out.new ≡ placed (printed s.now) out.old }
 {
-    // Kept (point 3): (d) as in `measure`.
+    // To do (point 3): as in `measure`.
     let mut from = 0;
     let mut filled = 0;
     while from < s.len() {

@@ -61,7 +61,7 @@ fn guessed<D: PdsDate>(answer: Option<Guessed<D>>) -> Result<Told, Refusal>
 }
 
 // ---- from texts, numbers and fields
-// Kept (point 2): (a) each arm calls the kind's own method, which is what is compared with the original.
+// Kept (point 2): (d) an arm calls a method at a type of its own, which is what is compared; no closure is generic over a type.
 
 pub(crate) fn text(kind: Kind, text: &[u8]) -> Result<Told, Refusal>
     ensures { told_as result ≡ text_answer (kind_of kind) text.now }

@@ -39,7 +39,7 @@ fn seen_of_eu5(date: Eu5Date) -> ExpandedRawDate
     }
 }
 
-// Kept (point 2): (a) each arm calls the kind's own method, which is what is compared with the original.
+// Kept (point 2): (d) an arm calls a method at a type of its own, which is what is compared; no closure is generic over a type.
 pub(crate) fn shown(kind: Kind, raw: Packed) -> ExpandedRawDate
     ensures { fields_of result ≡ unpacked (bits_of raw) }
 {

@@ -17,7 +17,7 @@ use std::cmp::Ordering;
 use uniform_date::UniformDate;
 use vic3_date::Vic3Date;
 
-// Kept (point 2): (a) each arm calls the kind's own method, which is what is compared with the original.
+// Kept (point 2): (d) an arm calls a method at a type of its own, which is what is compared; no closure is generic over a type.
 pub(crate) fn sum(kind: Kind, raw: Packed, days: i32) -> Result<Told, Refusal>
     ensures { told_as result ≡ sum_answer (kind_of kind) raw days }
 {

@@ -16,7 +16,7 @@ use refusals::Refusal;
 use uniform_date::UniformDate;
 use vic3_date::Vic3Date;
 
-// Kept (point 2): (a) each arm calls the kind's own method, which is what is compared with the original.
+// Kept (point 2): (d) an arm calls a method at a type of its own, which is what is compared; no closure is generic over a type.
 pub(crate) fn is_guessed(kind: Kind, raw: Packed) -> bool
     ensures { result ≡ is_guessed (bits_of raw) }
 {

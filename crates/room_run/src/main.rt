@@ -30,6 +30,7 @@ fn main(rt: HostRuntime) -> io::Result<()> {
 }
 
 // The input is the front of the room for it, at first without bytes; a buffer that is lent is the front of the other room.
+// Kept (point 6): (a) no heap: a `Vec`, which has its length, is none of this repository's.
 #[derive(Drop)]
 struct Rooms<'a> {
     input: &'a mut [u8],

@@ -32,7 +32,7 @@ pub fn at_most(row: &[u8], at: usize, most: u64) -> Part<u64>
 }
 
 // A number of 32 bits without a sign.
-// Kept (point 2): (d) it and `byte8` differ in a type that only `as` reaches: a trait of such types would have more lines than both.
+// Kept (point 2): (d) it and `byte8` are a call of `at_most` each: one function generic over `TryFrom` would have more lines than both.
 pub fn word32(row: &[u8], at: usize) -> Part<u32>
     ensures { part_as row.now result ≡ natural_up_to 4294967295 (drop at row.now) }
 {

@@ -5,6 +5,7 @@ ghost use Rattle.script.specs.Rooms.{fronted};
 use crate::preparing;
 
 // The buffer is the front of a room, at first empty; the target of a move is the front of the spare one.
+// Kept (point 6): (a) no heap: a `Vec`, which has its length, is none of this repository's.
 #[derive(Drop)]
 pub struct Rooms<'a> {
     pub room: &'a mut [u8],

@@ -42,6 +42,10 @@ module _ (y : ℤ) (lo hi : ℕ) where
       let h = le-true y (pos hi) (right (le_z (minus lo) y) (le_z y (pos hi)) e) in
       omega (arith, l, h, one_side y)
 
+-- a number that 32 bits hold, as 32 bits and back
+pub narrowed32 : (y : ℤ) → fits32 y ≡ true → to_z w32 (of_z w32 y) ≡ y
+narrowed32 y p = let t = fits_in y 2147483648 2147483647 p in to_z-of_z (fits-from w32 y (omega arith) (omega arith))
+
 by-test : {A : Type 0} (t : Bool) → (t ≡ true → A) → (A → ⊥) → t ≡ false
 by-test true holds never = absurd (never (holds refl))
 by-test false holds never = refl

@@ -3,6 +3,7 @@
 #![tactic(auto)]
 
 ghost use Rattle.std.specs.Prelude.{◌≡◌, drop};
+ghost use Rattle.rules.specs.Words.{fits32};
 ghost use Rattle.rules.specs.Refusals.{◌then◌, not_text};
 ghost use Rattle.rules.specs.Kinds.{settled, store};
 ghost use Rattle.rules.specs.Text.{reads_number_texts, number_text, text_fields};
@@ -25,6 +26,13 @@ fn reads_number_texts(kind: Kind) -> bool
     }
 }
 
+// Whether 32 bits hold a number.
+pub fn fits32(value: i64) -> bool
+    ensures { result ≡ fits32 value }
+{
+    -2147483648 <= value && value <= 2147483647
+}
+
 // A number text, its hour unchanged. The number must fit 32 bits.
 fn number_text(kind: Kind, value: i64) -> Option<Packed>
     ensures { made_as not_text result ≡ store (number_text (kind_of kind) value then λ f. settled (kind_of kind) not_text f) }
@@ -32,8 +40,10 @@ fn number_text(kind: Kind, value: i64) -> Option<Packed>
     if !reads_number_texts(kind) {
         return None;
     }
-    let number = i32::try_from(value).ok()?;
-    let fields = number::number_fields(number)?;
+    if !fits32(value) {
+        return None;
+    }
+    let fields = number::number_fields(value as i32)?;
     kinds::settle(kind, fields)
 }
 

@@ -1,10 +1,23 @@
 // Eight ASCII digits tested and parsed as one 64-bit word, as jomini's util.rs does.
 #![tactic(auto)]
 
-ghost use Rattle.std.specs.Prelude.{◌≡◌, ◌<◌, ◌≤◌, true, length, take};
+ghost use Rattle.std.specs.Prelude.{◌≡◌, ◌+◌, ◌*◌, ◌^◌, ◌<◌, ◌≤◌, true, length, take};
 ghost use Rattle.rules.specs.Text.{decimal_value};
 ghost use Rattle.util.specs.Word.{bytes_of, all_digits};
 ghost use Rattle.util.specs.Parse.{parsed, value_of};
+
+// Two numbers as one of twice the width, the first lowest.
+pub fn pair16(lo: u16, hi: u16) -> u32
+    ensures { result ≡ lo + hi * 2 ^ 16 }
+{
+    u32::from(lo) + u32::from(hi) * 0x1_0000
+}
+
+pub fn pair32(lo: u32, hi: u32) -> u64
+    ensures { result ≡ lo + hi * 2 ^ 32 }
+{
+    u64::from(lo) + u64::from(hi) * 0x1_0000_0000
+}
 
 // The word of eight bytes, the first lowest.
 pub fn from_le_bytes(bytes: [u8; 8]) -> u64

@@ -37,7 +37,8 @@ pub struct ExpandedRawDate {
 }
 
 // A date as it is stored: the year, and month × 4096 + day × 128 + hour × 4 beside it, with its mark added. Any bits can be handed in.
-#[derive(Clone, Copy, PartialEq, Eq)]
+// It has no `==`, which would see the mark: two dates are compared by `compare`.
+#[derive(Clone, Copy)]
 pub struct Packed {
     pub year: i16,
     pub word: u16,

@@ -13,7 +13,7 @@ use kinds::{ExpandedRawDate, GUESSED_MARK, Kind, NO_MARK, Packed};
 mod narrow;
 
 // What the guess answers. It is not the full decoder's answer, so that neither is taken for the other.
-#[derive(Clone, Copy, PartialEq, Eq)]
+#[derive(Clone, Copy)]
 pub struct Guess {
     pub date: Packed,
 }

@@ -17,21 +17,28 @@ use sized::Format;
 pub mod sized;
 pub mod slots;
 
-// The bytes of a record of version 1.
+// The bytes of a record, the most records and the version byte of version 1.
 pub const SIZE: usize = 5;
 
+pub const MOST: usize = 4096;
+
+pub const VERSION: u8 = 1;
+
 // The records of version 1 have no field number, and their dates no mark.
+pub const PLAIN: bool = true;
+
+// Version 1.
 pub const FORMAT: Format = Format {
     frame: Frame {
         size: SIZE,
-        most: 4096,
-        version: 1,
+        most: MOST,
+        version: VERSION,
     },
-    plain: true,
+    plain: PLAIN,
 };
 
 // The kind, the field number (0 for none, and in version 1) and the date of a record.
-#[derive(Clone, Copy, PartialEq, Eq)]
+#[derive(Clone, Copy)]
 pub struct Record {
     pub kind: Kind,
     pub field: u16,

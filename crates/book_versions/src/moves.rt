@@ -18,6 +18,14 @@ const DATE_SIZE: usize = 4;
 
 const LEAST_SIZE: usize = 1 + DATE_SIZE;
 
+// The room that a move needs: the bytes of a book of n records of that size.
+fn room_for(n: usize, size: usize) -> usize
+    requires { 1 + n * size < 4294967296 }
+    ensures { result ≡ head_size + n * size }
+{
+    HEAD_SIZE + n * size
+}
+
 // A record of `size` bytes at `at`, written as one of `new_size` bytes at `target`: its kind, zeros for what lies between, its date.
 fn put_recast(from: &[u8], at: usize, size: usize, to: &mut [u8], target: usize, new_size: usize)
     requires least_size_le_size { (least_size ≤ size) × (at + size ≤ length from.now) }
@@ -59,7 +67,7 @@ fn lay(from: &[u8], size: usize, to: &mut [u8], new: Frame, n: usize) -> Result<
     ensures result_value { moved_as result ≡ lay_answer new.size n to.old }
     ensures to_after { to.new ≡ lay_buffer new.size new.version (recast_all size new.size (pieces n size (drop head_size from.now))) to.old }
 {
-    if to.len() < HEAD_SIZE + n * new.size {
+    if to.len() < room_for(n, new.size) {
         return Err(Refusal::NoRoom);
     }
     frame::put_length(to, 1 + n * new.size);

@@ -14,17 +14,24 @@ use frame::Frame;
 use kinds::{Kind, Packed};
 use refusals::Refusal;
 
-// The bytes of a record of version 2.
+// The bytes of a record, the most records and the version byte of version 2.
 pub const SIZE: usize = 7;
 
+pub const MOST: usize = 4096;
+
+pub const VERSION: u8 = 2;
+
 // The records of version 2 may have a field number, and their dates a mark.
+pub const PLAIN: bool = false;
+
+// Version 2.
 pub const FORMAT: Format = Format {
     frame: Frame {
         size: SIZE,
-        most: 4096,
-        version: 2,
+        most: MOST,
+        version: VERSION,
     },
-    plain: false,
+    plain: PLAIN,
 };
 
 // Kept (point 2): (a) the documents name each version's calls; both versions' are calls of `Format`'s one function for each.

@@ -21,14 +21,18 @@ pub mod allowed;
 pub mod by_key;
 pub mod sized;
 
-// The bytes of a field number.
+// The bytes of a field number, the most entries and the version byte of version 1.
 pub const KEY_SIZE: usize = 2;
+
+pub const MOST: usize = 2048;
+
+pub const VERSION: u8 = 1;
 
 // Version 1.
 pub const FORMAT: Format = Format {
     key_size: KEY_SIZE,
-    most: 2048,
-    version: 1,
+    most: MOST,
+    version: VERSION,
 };
 
 // The bytes of an entry.
@@ -42,7 +46,7 @@ pub struct Entry {
 }
 
 // The date of a number and the kind that was used: the field's own, or the game's, whose guess it was and by which the date is marked.
-#[derive(Clone, Copy, PartialEq, Eq)]
+#[derive(Clone, Copy)]
 pub enum Looked {
     Declared { kind: Kind, date: Packed },
     Guessed { kind: Kind, date: Packed },

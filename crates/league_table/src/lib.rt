@@ -22,17 +22,20 @@ pub mod keys;
 pub mod moves;
 pub mod own;
 
-// The bytes of a key.
+// The bytes of a key, the most entries, the most of one league, and the version byte of version 2.
 pub const KEY_SIZE: usize = 3;
 
-// The most entries of one league.
+pub const MOST: usize = 2048;
+
 pub const SHARE: usize = 1024;
+
+pub const VERSION: u8 = 2;
 
 // Version 2.
 pub const FORMAT: Format = Format {
     key_size: KEY_SIZE,
-    most: 2048,
-    version: 2,
+    most: MOST,
+    version: VERSION,
 };
 
 // The bytes of an entry.

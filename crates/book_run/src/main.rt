@@ -3,6 +3,8 @@
 // `compare/README.md` has the format of the script and of what is told.
 #![tactic(auto)]
 
+ghost use Rattle.std.specs.Prelude.{◌≡◌, ◌≤◌, length};
+
 use crate::lines::Line;
 use book_versions::any;
 use script::rooms::Rooms;
@@ -31,8 +33,12 @@ fn main(rt: HostRuntime) -> io::Result<()> {
     })
 }
 
-// Does one line. A line that cannot be done is told as such, which no expected output has.
-fn step<W: Write>(out: &mut W, row: &[u8], rooms: &mut Rooms) -> io::Result<()> {
+// Does one line. A line that cannot be done is told as such, which no expected output has. Whatever happens, at an error
+// too, the room stays as long as it was, and the buffer within it.
+fn step<W: Write>(out: &mut W, row: &[u8], rooms: &mut Rooms) -> io::Result<()>
+    ensures room_kept { length rooms.new.room.now ≡ length rooms.old.room.now }
+    ensures size_in_bounds { rooms.new.size ≤ length rooms.old.room.now }
+{
     let buffer = &mut rooms.room[..rooms.size];
     match lines::read(row) {
         Line::Remark => script::telling::remark(out, row),
@@ -102,18 +108,21 @@ fn moved<W: Write>(
     row: &[u8],
     rooms: &mut Rooms,
     upward: bool,
-    length: usize,
+    long: usize,
     byte: u8,
-) -> io::Result<()> {
-    if rooms.room.len() < length || rooms.spare.len() < length {
+) -> io::Result<()>
+    ensures room_kept { length rooms.new.room.now ≡ length rooms.old.room.now }
+    ensures size_in_bounds { rooms.new.size ≤ length rooms.old.room.now }
+{
+    if rooms.room.len() < long || rooms.spare.len() < long {
         return script::telling::unread(out, row);
     }
-    let target = &mut rooms.spare[..length];
+    let target = &mut rooms.spare[..long];
     preparing::fill(target, byte);
     let told = versions::move_book(&rooms.room[..rooms.size], target, upward);
     telling::tell(out, row, told, false, target)?;
     if told.is_ok() {
-        rooms.take(length);
+        rooms.take(long);
     }
     Ok(())
 }

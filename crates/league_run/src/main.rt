@@ -3,6 +3,8 @@
 // `compare/README.md` has the format of the script and of what is told.
 #![tactic(auto)]
 
+ghost use Rattle.std.specs.Prelude.{◌≡◌, ◌≤◌, length};
+
 use crate::lines::Line;
 use script::rooms::Rooms;
 use script::{preparing, running, table_answers, telling};
@@ -24,8 +26,12 @@ fn main(rt: HostRuntime) -> io::Result<()> {
     })
 }
 
-// Does one line. A line that cannot be done is told as such, which no expected output has.
-fn step<W: Write>(out: &mut W, row: &[u8], rooms: &mut Rooms) -> io::Result<()> {
+// Does one line. A line that cannot be done is told as such, which no expected output has. Whatever happens, at an error
+// too, the room stays as long as it was, and the buffer within it.
+fn step<W: Write>(out: &mut W, row: &[u8], rooms: &mut Rooms) -> io::Result<()>
+    ensures room_kept { length rooms.new.room.now ≡ length rooms.old.room.now }
+    ensures size_in_bounds { rooms.new.size ≤ length rooms.old.room.now }
+{
     match lines::read(row) {
         Line::Remark => telling::remark(out, row),
         Line::Buffer { length, byte } => {
@@ -56,18 +62,21 @@ fn moved<W: Write>(
     out: &mut W,
     row: &[u8],
     rooms: &mut Rooms,
-    length: usize,
+    long: usize,
     byte: u8,
-) -> io::Result<()> {
-    if rooms.room.len() < length || rooms.spare.len() < length {
+) -> io::Result<()>
+    ensures room_kept { length rooms.new.room.now ≡ length rooms.old.room.now }
+    ensures size_in_bounds { rooms.new.size ≤ length rooms.old.room.now }
+{
+    if rooms.room.len() < long || rooms.spare.len() < long {
         return telling::unread(out, row);
     }
-    let target = &mut rooms.spare[..length];
+    let target = &mut rooms.spare[..long];
     preparing::fill(target, byte);
     let told = operations::move_table(&rooms.room[..rooms.size], target);
     telling::table(out, row, told, target)?;
     if table_answers::is_number(told) {
-        rooms.take(length);
+        rooms.take(long);
     }
     Ok(())
 }

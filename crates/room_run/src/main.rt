@@ -2,7 +2,7 @@
 // `compare/README.md` has the format of the script and of what is told.
 #![tactic(auto)]
 
-ghost use Rattle.std.specs.Prelude.{◌≤◌, length};
+ghost use Rattle.std.specs.Prelude.{◌≡◌, ◌≤◌, length};
 
 use crate::lines::Line;
 use listing::room;
@@ -41,7 +41,10 @@ struct Rooms<'a> {
 
 impl Rooms<'_> {
     // Does one row. A row that cannot be done is told as such, which no expected output has.
-    fn step<W: Write>(&mut self, out: &mut W, row: &[u8]) -> io::Result<()> {
+    fn step<W: Write>(&mut self, out: &mut W, row: &[u8]) -> io::Result<()>
+        ensures input_kept { length self.new.input.now ≡ length self.old.input.now }
+        ensures size_in_bounds { self.new.size ≤ length self.old.input.now }
+    {
         match lines::read(row) {
             Line::Remark => script::telling::remark(out, row),
             Line::Clear => {
@@ -59,7 +62,10 @@ impl Rooms<'_> {
     }
 
     // Puts a text and so many line ends behind the input. Says whether there was room for them.
-    fn put(&mut self, text: &[u8], ends: usize) -> bool {
+    fn put(&mut self, text: &[u8], ends: usize) -> bool
+        ensures input_kept { length self.new.input.now ≡ length self.old.input.now }
+        ensures size_in_bounds { self.new.size ≤ length self.old.input.now }
+    {
         match input::put(&mut self.input[self.size..], text, ends) {
             Ok(n) => {
                 self.size += n;
@@ -70,17 +76,14 @@ impl Rooms<'_> {
     }
 
     // The listing of the input in a buffer of so many bytes, each this one before.
-    fn list<W: Write>(
-        &mut self,
-        out: &mut W,
-        row: &[u8],
-        length: usize,
-        byte: u8,
-    ) -> io::Result<()> {
-        if self.lent.len() < length {
+    fn list<W: Write>(&mut self, out: &mut W, row: &[u8], long: usize, byte: u8) -> io::Result<()>
+        ensures input_kept { length self.new.input.now ≡ length self.old.input.now }
+        ensures size_in_bounds { self.new.size ≤ length self.old.input.now }
+    {
+        if self.lent.len() < long {
             return script::telling::unread(out, row);
         }
-        let buffer = &mut self.lent[..length];
+        let buffer = &mut self.lent[..long];
         let answer = input::list(&self.input[..self.size], buffer, byte);
         telling::listing(out, row, answer, buffer)
     }

@@ -30,6 +30,7 @@ impl<'a> Rooms<'a> {
     // A buffer of so many bytes, each this one. Says whether there is room for it.
     pub fn start(&mut self, long: usize, byte: u8) -> bool
         ensures value { result ≡ leb long (length self.old.room.now) }
+        ensures room_kept { length self.new.room.now ≡ length self.old.room.now }
         ensures room_after { self.new.room.now ≡ cond result (replicate long byte ++ drop long self.old.room.now) self.old.room.now }
         ensures size_after { self.new.size ≡ cond result long self.old.size }
         ensures spare_after { self.new.spare.now ≡ self.old.spare.now }
@@ -44,6 +45,7 @@ impl<'a> Rooms<'a> {
 
     // A target of so many bytes, as the buffer from then on.
     pub fn take(&mut self, long: usize)
+        ensures room_kept { length self.new.room.now ≡ length self.old.room.now }
         ensures room_after { self.new.room.now ≡ cond (leb long (length self.old.room.now) && leb long (length self.old.spare.now)) (fronted long self.old.spare.now self.old.room.now) self.old.room.now }
         ensures size_after { self.new.size ≡ cond (leb long (length self.old.room.now) && leb long (length self.old.spare.now)) long self.old.size }
         ensures spare_after { self.new.spare.now ≡ self.old.spare.now }
@@ -58,6 +60,7 @@ impl<'a> Rooms<'a> {
     // Exchanges the bytes of the buffer and as many of the spare room. Says whether that has so many.
     pub fn swap(&mut self) -> bool
         ensures value { result ≡ leb self.old.size (length self.old.spare.now) }
+        ensures room_kept { length self.new.room.now ≡ length self.old.room.now }
         ensures room_after { self.new.room.now ≡ cond result (fronted self.old.size self.old.spare.now self.old.room.now) self.old.room.now }
         ensures size_after { self.new.size ≡ self.old.size }
         ensures spare_after { self.new.spare.now ≡ cond result (fronted self.old.size self.old.room.now self.old.spare.now) self.old.spare.now }

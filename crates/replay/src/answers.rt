@@ -125,40 +125,31 @@ pub(crate) fn fields(kind: Kind, f: ExpandedRawDate) -> Result<Told, Refusal>
 
 // ---- the constants
 
-fn least_of<D: PdsDate>() -> Result<Told, Refusal>
-    ensures { told_as result ≡ Gives (Dated (stored (least (kind_of D.KIND)))) }
-{
-    Ok(Told::Date(D::least().raw()))
-}
-
-fn greatest_of<D: PdsDate>() -> Result<Told, Refusal>
-    ensures { told_as result ≡ Gives (Dated (stored (greatest (kind_of D.KIND)))) }
-{
-    Ok(Told::Date(D::greatest().raw()))
-}
-
+// The constants themselves: by these two contracts their values are those of the definitions.
+#[tactic(auto, unfolding(rules::specs::Kinds::packed, rules::specs::Kinds::least))]
 pub(crate) fn least(kind: Kind) -> Result<Told, Refusal>
     ensures { told_as result ≡ least_answer (kind_of kind) }
 {
     match kind {
-        Kind::Raw => least_of::<RawDate>(),
-        Kind::Date => least_of::<Date>(),
-        Kind::Hour => least_of::<DateHour>(),
-        Kind::Uniform => least_of::<UniformDate>(),
-        Kind::Eu5 => least_of::<Eu5Date>(),
-        Kind::Vic3 => least_of::<Vic3Date>(),
+        Kind::Raw => Ok(Told::Date(RawDate::LEAST.raw)),
+        Kind::Date => Ok(Told::Date(Date::LEAST.raw)),
+        Kind::Hour => Ok(Told::Date(DateHour::LEAST.raw)),
+        Kind::Uniform => Ok(Told::Date(UniformDate::LEAST.raw)),
+        Kind::Eu5 => Ok(Told::Date(Eu5Date::LEAST.raw)),
+        Kind::Vic3 => Ok(Told::Date(Vic3Date::LEAST.raw)),
     }
 }
 
+#[tactic(auto, unfolding(rules::specs::Kinds::packed, rules::specs::Kinds::greatest, rules::specs::Calendar::lengths, rules::specs::Calendar::month_length))]
 pub(crate) fn greatest(kind: Kind) -> Result<Told, Refusal>
     ensures { told_as result ≡ greatest_answer (kind_of kind) }
 {
     match kind {
-        Kind::Raw => greatest_of::<RawDate>(),
-        Kind::Date => greatest_of::<Date>(),
-        Kind::Hour => greatest_of::<DateHour>(),
-        Kind::Uniform => greatest_of::<UniformDate>(),
-        Kind::Eu5 => greatest_of::<Eu5Date>(),
-        Kind::Vic3 => greatest_of::<Vic3Date>(),
+        Kind::Raw => Ok(Told::Date(RawDate::GREATEST.raw)),
+        Kind::Date => Ok(Told::Date(Date::GREATEST.raw)),
+        Kind::Hour => Ok(Told::Date(DateHour::GREATEST.raw)),
+        Kind::Uniform => Ok(Told::Date(UniformDate::GREATEST.raw)),
+        Kind::Eu5 => Ok(Told::Date(Eu5Date::GREATEST.raw)),
+        Kind::Vic3 => Ok(Told::Date(Vic3Date::GREATEST.raw)),
     }
 }

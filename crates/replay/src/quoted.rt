@@ -1,13 +1,14 @@
 // A text in double quotes, as a row has it: bytes 0x21 to 0x7e other than `"` and `\` are themselves, every other byte is `\xNN`.
-ghost use Rattle.std.specs.Prelude.{◌<◌, ◌≤◌, length, IfSome};
+ghost use Rattle.std.specs.Prelude.{◌<◌, ◌≤◌, ◌+◌, length, IfSome};
 
 use crate::parts;
 use rows::NOWHERE;
 use script::naturals::Part;
 
-// The byte that `\xNN` spells at a place.
+// The byte that `\xNN` spells at a place: all four bytes are in the row, so that the place after them is one further on in it.
 fn escaped(s: &[u8], at: usize) -> Option<u8>
     requires { at < length s.now }
+    ensures { IfSome result (λ _. at + 4 ≤ length s.now) }
 {
     if s.len() - at <= 3 || s[at + 1] != b'x' {
         return None;

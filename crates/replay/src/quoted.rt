@@ -5,7 +5,7 @@ use crate::parts;
 use rows::NOWHERE;
 use script::naturals::Part;
 
-// The byte that `\xNN` spells at a place: all four bytes are in the row, so that the place after them is one further on in it.
+// The byte that `\xNN` spells at a place, of which all four bytes are in the row.
 fn escaped(s: &[u8], at: usize) -> Option<u8>
     requires { at < length s.now }
     ensures { IfSome result (λ _. at + 4 ≤ length s.now) }
